@@ -16,7 +16,7 @@ from dataclasses import dataclass
 from pathlib import Path
 
 import pytest
-from wmbus_service import backup, config, exporting, service
+from wmbus_service import backup, config, exporting, service, store
 from wmbus_service.backup import raise_counters
 from wmbus_service.commandline import main
 from wmbus_service.config import Config, Programs, has_steps, read_config, unproved_words
@@ -100,6 +100,7 @@ def test_from_nothing_to_readings(place: Place) -> None:
     assert "no meter is known" in place.fault("check")
     assert "own address isn't known" in place.fault("add", ADDRESS, given=KEY)
     assert "key" in place.fault("add", ADDRESS, "--own", OWN, given="0011")
+    assert "one that no meter has" in place.fault("add", ADDRESS, "--own", ADDRESS.upper(), given=KEY)
     assert place.said("add", ADDRESS, "--own", OWN, "--name", "cellar", given=f"{KEY}\n") == f"meter {ADDRESS} was added\n"
     assert "known already" in place.fault("add", ADDRESS, given=KEY)
     assert "can't send" in place.fault("check")
@@ -132,6 +133,21 @@ def test_a_name_in_another_encoding(place: Place) -> None:
     """A meter is added also where its name has signs that can't be shown, as a terminal of another encoding gives them: without these."""
     place.said("add", ADDRESS, "--own", OWN, "--name", "K\udcfcche\n1", given=KEY)
     assert json.loads(place.said("status", "--json"))["meters"][0]["name"] == "Kche1"
+
+
+def test_a_meter_comes_with_its_name(place: Place, monkeypatch: pytest.MonkeyPatch) -> None:
+    """In one commit: a plug that is pulled behind it leaves none that is known without the name that was given."""
+    (place.folder / "none").write_text("Key;ID\n")
+    place.said("import", str(place.folder / "none"), "--own", OWN)
+    commit = store.commit
+
+    def pulled(database: sqlite3.Connection) -> None:
+        commit(database)
+        raise OSError("the plug was pulled")
+    with monkeypatch.context() as within:
+        within.setattr(store, "commit", pulled)
+        place.fault("add", ADDRESS, "--name", "cellar", given=KEY)
+    assert [it["name"] for it in json.loads(place.said("status", "--json"))["meters"]] == ["cellar"]
 
 
 def test_strangers_that_are_known_now(place: Place) -> None:

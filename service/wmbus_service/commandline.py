@@ -209,11 +209,10 @@ def _add(asked: argparse.Namespace) -> int:
     with _opened(config, True) as database:
         own = _own(config, database, asked.own)
         text = f"wmbus-roster 2\nown {own}\nmeter {asked.address.lower()} {asked.mode} {_key(asked.address)} - - 0 0\n"
-        added = meters.take_roster(config, database, text, f"meter {asked.address}")
+        added = meters.take_roster(config, database, text, f"meter {asked.address}", meters.name_of(asked.name))
         if not added:
             raise Trouble(f"meter {asked.address}", "it is known already",
                           "its key stays as it is; `wmbus-service rekey` gives a second one")
-        database.execute("update meter set name = ? where address = ?", (meters.name_of(asked.name), asked.address.lower()))
     print(f"meter {asked.address.lower()} was added")
     return DONE
 

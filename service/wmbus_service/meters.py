@@ -101,14 +101,16 @@ def read_roster(path: Path) -> str:
         raise Trouble(path, f"the roster can't be read: {fault.strerror}", "name it in the configuration as `roster`") from None
 
 
-def take_roster(config: Config, database: sqlite3.Connection, text: str, place: object) -> int:
-    """Adds a roster's new meters; what is known of the others stays. How many are new."""
+def take_roster(config: Config, database: sqlite3.Connection, text: str, place: object, name: str = "") -> int:
+    """Adds a roster's new meters, where it is of a single one with its name; what is known of the others stays. How many are new."""
     for piece in pieces_of(text):
         judge_roster(words_of(config.programs.steps), piece, place)
     own, told = meters_in(text)
     with store.transaction(database):
         set_own(database, own, place)
-        added = sum(add_meter(database, fields) for fields in told)
+        added = [fields[1].lower() for fields in told if add_meter(database, fields, name)]
+        if own in added:
+            raise Trouble(place, f"the collector's own address {own} is that of a meter", "name one that no meter has")
     if added:
-        log.info("%d new meters of %s", added, place)
-    return added
+        log.info("%d new meters of %s", len(added), place)
+    return len(added)
