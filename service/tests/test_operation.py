@@ -27,7 +27,7 @@ from wmbus_service.trouble import Trouble
 
 import messages
 from . import measure
-from .kill import MEMORY, Child
+from .kill import MEMORY, TOP, Child
 from .meters import line_of
 from .processes import PATIENCE, until
 from .stand_in import use_stand_in
@@ -203,6 +203,26 @@ def test_that_it_lives_is_told_within_an_interval(house: House, tmp_path: Path, 
             assert [told.recv(100) for _ in range(5)] == [b"READY=1"] + [b"WATCHDOG=1"] * 4
         finally:
             assert child.end(signal.SIGTERM) == 0
+
+
+def test_an_interruption_at_a_terminal(house: House, tmp_path: Path) -> None:
+    """Ctrl-C, which a terminal gives to all programs in front of it, ends the service once the session that runs is committed."""
+    program, begun = tmp_path / "steps", tmp_path / "begun"
+    program.write_text(f'#!/bin/sh\ntouch {begun}\nsleep 0.5\nexec {TOP}/tests/reference/steps "$@"\n')
+    program.chmod(0o755)
+    house.spool(house.whole(house.meters[0]))
+    house.database.close()
+
+    def run() -> None:
+        os.setpgid(0, 0)
+        session_with(steps.run_steps, replace(house.config, programs=Programs(steps=str(program))))
+    child = Child(tmp_path / "log", run)
+    until(begun.exists)
+    os.killpg(child.pid, signal.SIGINT)
+    until(lambda: not child.is_running())
+    assert child.status == 0, (tmp_path / "log").read_text()
+    with closing(store.open_store(house.config.database)) as database:
+        assert database.execute("select count(*) from reading").fetchone() == (1,)
 
 
 def test_an_end_at_any_moment(tmp_path: Path) -> None:
