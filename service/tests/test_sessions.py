@@ -175,7 +175,7 @@ def test_a_program_that_always_fails(house: House, monkeypatch: pytest.MonkeyPat
 @pytest.mark.parametrize("word", ["kill $$", "exit 10"])
 def test_a_program_that_fails_once(house: House, monkeypatch: pytest.MonkeyPatch, word: str) -> None:
     """Where the program is ended from outside, as when a machine is shut down, or lacks memory for a moment, its only line is heard
-    again."""
+    again; the former is trouble, as sessions stand still for as long as it is so."""
     house.spool(house.whole(house.meters[0]))
     failures = [word]
 
@@ -184,7 +184,11 @@ def test_a_program_that_fails_once(house: House, monkeypatch: pytest.MonkeyPatch
         return steps.Told([], {})
     with monkeypatch.context() as within:
         within.setattr(session, "run_steps", failing_once)
-        assert house.sessions.next(NOW) == (word == "exit 10")
+        if word == "exit 10":
+            assert house.sessions.next(NOW) == 1
+        else:
+            with pytest.raises(Trouble, match="ended from outside"):
+                house.sessions.next(NOW)
     assert not house.all("select id from aside")
     house.hear()
     assert len(house.all("select id from reading")) == 1
