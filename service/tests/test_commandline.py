@@ -299,14 +299,30 @@ def test_copy_of_many_meters(place: Place) -> None:
     assert "doesn't take" in place.fault("restore", str(copy))
 
 
+@pytest.mark.parametrize("written", ["", "end\\n", "wmbus-state 1\\nend\\n", f"wmbus-state 1\\nown {OWN}\\nreading 1 2 -\\nend\\n",
+                                     f"wmbus-state 1\\nown {OWN}\\nmeter {ADDRESS} 7 {KEY} - - 12 0\\n"])
+def test_a_program_that_raises_no_counters(place: Place, written: str) -> None:
+    """Where what `state_raise` writes isn't the state of all meters that is said, and the database stays."""
+    program_file = place.folder / "state_raise"
+    program_file.write_text(f"#!/bin/sh\nprintf '{written}' >\"$3\"\n")
+    program_file.chmod(0o755)
+    place.said("add", ADDRESS, "--own", OWN, given=KEY)
+    place.said("backup", str(place.folder / "copy.db"))
+    place.config.write_text(place.config.read_text().replace("[programs]\n", f'[programs]\nstate_raise = "{program_file}"\n'))
+    assert f"{program_file}: what it wrote isn't" in place.fault("restore", str(place.folder / "copy.db"))
+    assert f"meter {ADDRESS}" in place.said("status")
+
+
 def test_counters_that_would_come_again(place: Place) -> None:
-    """A margin below nothing is refused, and the database stays as it was."""
+    """A margin below nothing is refused, and so is one above all counters, as `state_raise` has it (docs/FORMATS.md, "The state"): no command
+    would reach a meter any more. The database stays as it was."""
     place.said("add", ADDRESS, "--own", OWN, given=KEY)
     copy = place.folder / "copy.db"
     place.said("backup", str(copy))
     place.said("restore", str(copy), "--margin", "50")
     place.said("backup", str(place.folder / "later.db"))
-    assert "margin" in place.fault("restore", str(place.folder / "later.db"), "--margin", "-20")
+    for margin in ("-20", str((1 << 32) - 50)):
+        assert "margin" in place.fault("restore", str(place.folder / "later.db"), "--margin", margin)
     place.said("export", "--state", str(place.folder / "state"))
     assert f"meter {ADDRESS} 7 {KEY} - - 50 0\n" in (place.folder / "state").read_text()
 
@@ -418,6 +434,9 @@ def test_check_of_a_database_that_isnt_whole(place: Place) -> None:
             file.write(b"\xff" * 200)
     said = place.fault("check")
     assert "wrong: meters: the database: " in said and "last backup" in said and "receivers.attic: it can't send" in said
+    # (a copy of it is none, and it is the database that isn't whole)
+    assert f"{path}: the database isn't whole" in place.fault("backup", str(place.folder / "copy.db"))
+    assert not (place.folder / "copy.db").exists()
 
 
 def test_check_of_programs(place: Place) -> None:

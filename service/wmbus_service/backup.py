@@ -2,6 +2,7 @@
 from __future__ import annotations
 
 import os
+import re
 import sqlite3
 import subprocess
 import time
@@ -19,6 +20,7 @@ from .steps import ProgramFailed, run_steps, state_text
 from .trouble import Trouble
 
 HIGHEST, MOST_METERS = (1 << 32) - 1, 4096
+SMALLER = "take a smaller margin"
 
 
 def back_up(config: Config, target: Path) -> int:
@@ -31,7 +33,7 @@ def back_up(config: Config, target: Path) -> int:
     try:
         with closing(store.open_store(config.database)) as database, closing(sqlite3.connect(beside, isolation_level=None)) as copy:
             database.backup(copy)
-            look_over(copy, beside)
+            look_over(copy, config.database)
             copy.execute("pragma journal_mode = delete")
         _put_in_place(beside, target)
     finally:
@@ -125,7 +127,10 @@ def raised_by(block: str, margin: int) -> str:
     """A meter's block with a higher counter."""
     line, _, rest = block.partition("\n")
     fields = line.split(" ")
-    fields[DOWN_PLACE] = str(min(int(fields[DOWN_PLACE]) + margin, HIGHEST))
+    down = int(fields[DOWN_PLACE]) + margin
+    if down > HIGHEST:
+        raise Trouble(f"meter {fields[1]}", f"its downlink counter would pass {HIGHEST}, and no command would reach it any more", SMALLER)
+    fields[DOWN_PLACE] = str(down)
     return f"{' '.join(fields)}\n{rest}"
 
 
@@ -141,14 +146,11 @@ def raised_by_program(program: Sequence[str], own: str, blocks: Sequence[str], m
                           "name it in the configuration under [programs]") from None
         if done.returncode:
             said = done.stderr.decode("utf-8", "replace").strip()[:300]
-            raise Trouble(words[0], f"status {done.returncode}: {said}", "take a smaller margin")
-        lines = os.pread(made, os.fstat(made).st_size, 0).decode("latin-1").splitlines(keepends=True)
-    found: list[str] = []
-    for line in lines[2:-1]:
-        if line.startswith("meter "):
-            found.append(line)
-        else:
-            found[-1] += line
+            raise Trouble(words[0], f"status {done.returncode}: {said}", SMALLER)
+        written = os.pread(made, os.fstat(made).st_size, 0).decode("latin-1")
+    _, *found = re.split("^(?=meter )", written.removesuffix("end\n"), flags=re.MULTILINE)
+    if not written.endswith("\nend\n") or len(found) != len(blocks):
+        raise Trouble(words[0], "what it wrote isn't the state of all meters", "look at its release")
     return found
 
 
