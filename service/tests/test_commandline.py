@@ -225,6 +225,19 @@ def test_copy(place: Place) -> None:
     assert f"meter {ADDRESS}" in place.said("status")
 
 
+def test_commands_that_a_restore_cancels_are_told(place: Place) -> None:
+    """Each change of a command's state is a message (docs/SERVICE.md, "MQTT and Home Assistant"), also that it is cancelled by a restore."""
+    place.config.write_text(place.config.read_text() + "[mqtt]\n")
+    place.said("add", ADDRESS, "--own", OWN, given=KEY)
+    place.said("command", ADDRESS, "01", "--id", "before")
+    place.said("backup", str(place.folder / "copy.db"))
+    place.said("restore", str(place.folder / "copy.db"))
+    with sqlite3.connect(place.folder / "wmbus/wmbus.db") as database:
+        told = database.execute("select topic, payload from publication").fetchall()
+    assert [(topic, json.loads(text)["id"], json.loads(text)["state"]) for topic, text in told] == [
+        (f"wmbus/commands/{ADDRESS}", "before", "cancelled")]
+
+
 @pytest.mark.parametrize("name", ["copy #1.db", "copy?.db", "copy%31.db"])
 def test_copy_of_any_name(place: Place, name: str) -> None:
     """A copy is put back whatever it is called, and no other one in its place."""

@@ -127,9 +127,11 @@ def test_a_key_that_is_refused(house: House, monkeypatch: pytest.MonkeyPatch) ->
 
 
 def test_each_change_of_a_command_is_told(house: House, monkeypatch: pytest.MonkeyPatch) -> None:
-    """Also that a new key was taken, and that a command was set aside, is a message for the broker."""
+    """Also that a new key was taken, that a command among a receiver's lines is queued, and that one was set aside, is a message for the
+    broker."""
     config = replace(house.config, mqtt=Mqtt())
     sessions = Sessions(config, house.database)
+    house.spool(f"Q {house.meters[0].name} 01\n")
     put_key(house.database, "key", house.meters[0].name, "00" * 16, NOW)
     sessions.next(NOW)
     put_command(house.database, "bad", house.meters[0].name, "ee", NOW)
@@ -137,8 +139,8 @@ def test_each_change_of_a_command_is_told(house: House, monkeypatch: pytest.Monk
     for _ in range(2):
         sessions.next(NOW)
     told = [(topic, json.loads(text)) for topic, text in house.all("select topic, payload from publication order by id")]
-    assert [topic for topic, _ in told] == [f"wmbus/commands/{house.meters[0].name}"] * 2
-    assert [(it["id"], it["state"]) for _, it in told] == [("key", "done"), ("bad", "refused")]
+    assert [topic for topic, _ in told] == [f"wmbus/commands/{house.meters[0].name}"] * 3
+    assert [(it["id"], it["state"]) for _, it in told] == [("key", "done"), ("line 2", "queued"), ("bad", "refused")]
 
 
 def test_a_value_with_a_qualifier(house: House) -> None:

@@ -15,6 +15,7 @@ from .commands import OPEN
 from .config import Config, words_of
 from .memory_files import memory_files, path_of
 from .meters import DOWN_PLACE
+from .publications import Publications
 from .spool import sync
 from .steps import ProgramFailed, run_steps, state_text
 from .trouble import Trouble
@@ -92,7 +93,7 @@ def _restore_over(config: Config, source: Path, beside: Path, margin: int) -> in
     with closing(store.open_store(beside)) as database:
         with store.transaction(database):
             count = raise_counters(config, database, margin)
-            _give_up(database, time.time())
+            _give_up(config, database, time.time())
         _judge(config, database)
         database.execute("pragma journal_mode = delete")
     _gather_commits(config.database)
@@ -154,16 +155,19 @@ def raised_by_program(program: Sequence[str], own: str, blocks: Sequence[str], m
     return found
 
 
-def _give_up(database: sqlite3.Connection, now: float) -> None:
+def _give_up(config: Config, database: sqlite3.Connection, now: float) -> None:
     """What was open when the copy was made isn't done again."""
-    database.execute("update command set state = 'cancelled', reason = 'restored', changed = ?,"
-                     " payload = case kind when 'rekey' then '' else payload end where state = 'waiting'", (now,))
+    cancelled = database.execute("update command set state = 'cancelled', reason = 'restored', changed = ?,"
+                                 " payload = case kind when 'rekey' then '' else payload end where state = 'waiting' returning id",
+                                 (now,)).fetchall()
     marks = ", ".join("?" * len(OPEN))
     database.execute(f"update command set wish = 'cancel', reason = 'restored', changed = ? where state in ({marks})", (now, *OPEN))
     database.execute("update outbox set missed = 'restored' where sent is null and missed is null")
     # (the broker has later messages than the copy's; sensors are announced anew)
     database.execute("delete from publication")
     database.execute("delete from announced")
+    for (ident,) in cancelled:
+        Publications(config.mqtt, database).command(ident)
 
 
 def _judge(config: Config, database: sqlite3.Connection) -> None:
