@@ -15,6 +15,7 @@ from collections.abc import Iterator
 from contextlib import closing, suppress
 from dataclasses import replace
 from pathlib import Path
+from typing import Any
 
 import pytest
 from wmbus_service import broker, service, session, status, steps, store
@@ -201,6 +202,39 @@ def test_a_connection_that_is_reset() -> None:
         serving.join()
         with pytest.raises((broker.Lost, OSError)):
             broker.publish(client, [(number, "wmbus/meter/a", "{}", 1) for number in range(3)])
+
+
+def test_a_connection_that_is_reset_at_once(house: House, monkeypatch: pytest.MonkeyPatch, caplog: pytest.LogCaptureFixture) -> None:
+    """Where what listens at the broker's port resets a connection before a word was said, as what stands in front of a broker does that is
+    down, the next one follows."""
+    came: list[int] = []
+    turn, connect = threading.Barrier(2, timeout=PATIENCE), socket.create_connection
+    with socket.create_server(("127.0.0.1", 0)) as server:
+        def serve() -> None:
+            with suppress(OSError, threading.BrokenBarrierError):
+                while True:
+                    opened, _ = server.accept()
+                    turn.wait()
+                    opened.setsockopt(socket.SOL_SOCKET, socket.SO_LINGER, struct.pack("ii", 1, 0))
+                    opened.close()
+                    came.append(1)
+                    turn.wait()
+
+        def connected(*words: Any, **more: Any) -> socket.socket:
+            opened = connect(*words, **more)
+            # (it is there, and then it is reset)
+            turn.wait()
+            turn.wait()
+            return opened
+        monkeypatch.setattr(socket, "create_connection", connected)
+        threading.Thread(target=serve, daemon=True).start()
+        ending = Ending()
+        connecting = broker.Broker(house.config, Mqtt(port=server.getsockname()[1]), ending)
+        connecting.start()
+        until(lambda: not connecting.is_alive() or len(came) > 1)
+        assert connecting.is_alive() and "it is tried again" in caplog.text
+        ending.set()
+        connecting.join(PATIENCE)
 
 
 def test_a_slow_way_to_the_broker(monkeypatch: pytest.MonkeyPatch) -> None:

@@ -9,11 +9,11 @@ import json
 import logging
 import socket
 import sqlite3
-import ssl
 import struct
 import threading
 import time
 from collections.abc import Callable
+from contextlib import closing
 from pathlib import Path
 from typing import Any
 
@@ -43,7 +43,7 @@ class Lost(Exception):
 
 
 class Broker(threading.Thread):
-    """What goes to the broker and comes from it."""
+    """What goes to the broker and comes from it, whatever a connection ends by."""
 
     def __init__(self, config: Config, told: Mqtt, ending: Ending) -> None:
         super().__init__(name="mqtt", daemon=True)
@@ -52,13 +52,13 @@ class Broker(threading.Thread):
 
     def run(self) -> None:
         """Connections, one after the other."""
-        database = store.open_store(self.config.database)
         pause, said = LEAST_PAUSE, ""
         while not self.ending.is_set():
             began = time.monotonic()
             try:
-                self._serve(self._connection(database), database)
-            except (Lost, OSError, ssl.SSLError, sqlite3.Error, Trouble) as fault:
+                with closing(store.open_store(self.config.database)) as database:
+                    self._serve(self._connection(database), database)
+            except Exception as fault:
                 if str(fault) != said:
                     log.warning("MQTT: %s:%d: %s; it is tried again", self.told.host, self.told.port, fault)
                     said = str(fault)
@@ -128,9 +128,12 @@ def _connect(told: Mqtt, client: mqtt.Client) -> None:
 
     client.on_connect = connected
     try:
-        client.connect(told.host, told.port, keepalive=30)
+        status = client.connect(told.host, told.port, keepalive=30)
     except (ValueError, OverflowError) as fault:
         raise Lost(str(fault)) from None
+    if status != mqtt.MQTT_ERR_SUCCESS:
+        # (it was reset at once, as by what stands in front of a broker that is down)
+        raise Lost(mqtt.error_string(status))
     # (else each small message waits for the answer to the one before it)
     client.socket().setsockopt(socket.IPPROTO_TCP, socket.TCP_NODELAY, 1)
     _until(client, lambda: len(answers), 1)
