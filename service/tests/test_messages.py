@@ -413,7 +413,8 @@ def test_password_and_tls(tmp_path: Path, house: House) -> None:
     run(["mosquitto_passwd", "-b", "-c", files / "users", "house", "secret"])
     mosquitto = Mosquitto(tmp_path / "broker",
                           f"certfile {certificate}\nkeyfile {key}\nallow_anonymous false\npassword_file {files}/users\n")
-    (files / "password").write_text("secret\n")
+    # (as an editor on Windows writes it)
+    (files / "password").write_bytes(b"\xef\xbb\xbfsecret\r\n")
     told = Mqtt(port=mosquitto.port, user="house", password_file=str(files / "password"), tls=True,
                 authority=str(certificate))
     broker.try_connection(told)
@@ -442,6 +443,22 @@ def test_password_in_another_encoding(tmp_path: Path, house: House) -> None:
     connecting.join(PATIENCE)
 
 
+def test_a_password_without_a_user(mosquitto: Mosquitto) -> None:
+    """It isn't sent (MQTT 3.1.1, 3.1.2.9), and `check` says so, also where the broker takes everybody."""
+    with pytest.raises(Trouble, match="mqtt.password_file: "):
+        broker.try_connection(Mqtt(port=mosquitto.port, password_file="/etc/wmbus/mqtt.password"))
+
+
+@pytest.mark.parametrize("text", [None, "no certificate"])
+def test_an_authority_that_is_none(tmp_path: Path, text: str | None) -> None:
+    """A CA's file that isn't there, or has no certificate, is named."""
+    path = tmp_path / "ca.pem"
+    if text:
+        path.write_text(text)
+    with pytest.raises(Trouble, match=f"{path}: the authority's certificate"):
+        broker.try_connection(Mqtt(port=free_port(), tls=True, authority=str(path)))
+
+
 @pytest.mark.parametrize("told", [Mqtt(port=0), Mqtt(port=70_000), Mqtt(host="")])
 def test_place_where_no_broker_can_be(house: House, told: Mqtt, caplog: pytest.LogCaptureFixture) -> None:
     """A place that can be none is named by `check` and in the log."""
@@ -456,10 +473,12 @@ def test_place_where_no_broker_can_be(house: House, told: Mqtt, caplog: pytest.L
     connecting.join(PATIENCE)
 
 
-@pytest.mark.parametrize("name, text", [("topic", "wmbus/#"), ("topic", "+/wmbus"), ("discovery", "homeassistant/#"), ("client", "")])
-def test_names_under_which_nothing_goes(house: House, mosquitto: Mosquitto, name: str, text: str, caplog: pytest.LogCaptureFixture) -> None:
-    """A topic with signs of a filter (MQTT 3.1.1, 3.3.2.1) and an empty client name (3.1.3.1) are named by `check` and in the log, and
-    what connects tries on."""
+@pytest.mark.parametrize("name, text", [("topic", "wmbus/#"), ("topic", "+/wmbus"), ("discovery", "homeassistant/#"), ("client", ""),
+                                        ("authority", "/etc/ssl/cert.pem")])
+def test_settings_with_which_nothing_goes(house: House, mosquitto: Mosquitto, name: str, text: str,
+                                          caplog: pytest.LogCaptureFixture) -> None:
+    """A topic with signs of a filter (MQTT 3.1.1, 3.3.2.1), an empty client name (3.1.3.1), and an authority without TLS, where all would go
+    in the clear, are named by `check` and in the log, and what connects tries on."""
     told = replace(Mqtt(port=mosquitto.port), **{name: text})
     with pytest.raises(Trouble, match=f"mqtt.{name}: "):
         broker.try_connection(told)

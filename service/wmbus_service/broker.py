@@ -69,7 +69,7 @@ class Broker(threading.Thread):
     def _connection(self, database: sqlite3.Connection) -> mqtt.Client:
         """A connection under the service's name, so that the broker keeps the commands that come while there is none."""
         told = self.told
-        look_at_names(told)
+        look_at_settings(told)
 
         def heard(_client: Any, _data: Any, message: mqtt.MQTTMessage) -> None:
             try:
@@ -120,7 +120,11 @@ def _connect(told: Mqtt, client: mqtt.Client) -> None:
     if told.user:
         client.username_pw_set(told.user, _password_of(told.password_file) if told.password_file else None)
     if told.tls:
-        client.tls_set(ca_certs=told.authority or None)
+        try:
+            client.tls_set(ca_certs=told.authority or None)
+        except OSError as fault:
+            raise Trouble(told.authority or "mqtt.tls", f"the authority's certificate can't be read: {fault.strerror or fault}",
+                          "name the CA's file, in PEM, as mqtt.authority") from None
     answers: list[int] = []
 
     def connected(_client: Any, _data: Any, _flags: Any, answer: int) -> None:
@@ -144,24 +148,29 @@ def _connect(told: Mqtt, client: mqtt.Client) -> None:
 def _password_of(path: str) -> str:
     """The password that stands in a file."""
     try:
-        return Path(path).read_text(encoding="utf-8").strip()
+        # (editors on Windows put a mark in front)
+        return Path(path).read_text(encoding="utf-8-sig").strip()
     except UnicodeDecodeError:
         raise Trouble(path, "the password isn't in UTF-8", "write it into the file anew") from None
 
 
-def look_at_names(told: Mqtt) -> None:
-    """Names under which nothing can be published, or kept by the broker."""
+def look_at_settings(told: Mqtt) -> None:
+    """Names under which nothing can be published, or kept by the broker, and an authority without that for which it is."""
     for name, topic in (("topic", told.topic), ("discovery", told.discovery)):
         if set(topic) & set("+#"):
             raise Trouble(f"mqtt.{name}", "it has + or #, and nothing can be published under it", "name a topic without these signs")
     if not told.client:
         raise Trouble("mqtt.client", "it is empty, and the broker keeps under it what comes while there is no connection",
                       "give it a name, or leave it out")
+    if told.authority and not told.tls:
+        raise Trouble("mqtt.authority", "without `tls` all goes in the clear, the password too", "write tls = true, or leave it out")
 
 
 def try_connection(told: Mqtt) -> None:
     """Connects under another name, and leaves again."""
-    look_at_names(told)
+    look_at_settings(told)
+    if told.password_file and not told.user:
+        raise Trouble("mqtt.password_file", "without `user` no password is sent (MQTT 3.1.1, 3.1.2.9)", "name the user, or leave it out")
     try:
         client = mqtt.Client(client_id="")
         _connect(told, client)
