@@ -386,12 +386,16 @@ def test_sensors_members(house: House, mosquitto: Mosquitto) -> None:
     served.end()
 
 
-def test_sensors_under_another_topic(house: House, tmp_path: Path) -> None:
-    """Once the topics are others in the configuration sensors are told of under these, and otherwise once over all starts."""
+def test_sensors_at_another_broker_or_topic(house: House, tmp_path: Path) -> None:
+    """Once the broker is another one in the configuration, which knows no sensor yet, or the topics are, sensors are told of there, and
+    otherwise once over all starts."""
     house.database.close()
     seen = []
-    for number, (topic, discovery) in enumerate((("wmbus", "homeassistant"),) * 2 + (("house", "homeassistant"), ("house", "ha")), 1):
-        config = replace(house.config, mqtt=Mqtt(port=free_port(), topic=topic, discovery=discovery))
+    first, second = free_port(), free_port()
+    brokers = (Mqtt(port=first), Mqtt(port=first), Mqtt(port=first, topic="house"), Mqtt(port=first, topic="house", discovery="ha"),
+               Mqtt(port=second, topic="house", discovery="ha"), Mqtt("127.0.0.2", second, topic="house", discovery="ha"))
+    for number, told in enumerate(brokers, 1):
+        config = replace(house.config, mqtt=told)
         house.spool(house.whole(house.meters[0]))
         child = Child(tmp_path / f"log {number}", functools.partial(service.run, config))
         with closing(store.open_store(house.config.database)) as database:
@@ -400,7 +404,7 @@ def test_sensors_under_another_topic(house: House, tmp_path: Path) -> None:
             seen += [(name.split("/")[0], json.loads(text)["state_topic"].split("/")[0])
                      for name, text in database.execute("select topic, payload from publication where topic like '%/config'").fetchall()]
             database.execute("delete from publication")
-    assert seen == [("homeassistant", "wmbus"), ("homeassistant", "house"), ("ha", "house")]
+    assert seen == [("homeassistant", "wmbus"), ("homeassistant", "house"), *[("ha", "house")] * 3]
 
 
 def test_password_and_tls(tmp_path: Path, house: House) -> None:
