@@ -524,6 +524,18 @@ def test_metrics_port_that_is_taken(house: House) -> None:
         serve(house.config, Metrics(host="radio..house"), service.Service(house.config, house.database))
 
 
+def test_a_session_and_a_wrong_clock(house: House, monkeypatch: pytest.MonkeyPatch) -> None:
+    """How long ago lines were looked for is told right also where the clock was set since then."""
+    from wmbus_service.metrics import Figures
+    served = service.Service(house.config, house.database)
+    served.turn()
+    now = time.time()
+    for wrong in (now - 86_400, now + 86_400):
+        monkeypatch.setattr(time, "time", lambda: wrong)  # noqa: B023
+        found = {it.name: it.samples[0].value for it in Figures(house.config, served).collect()}
+        assert 0 <= found["wmbus_session_age_seconds"] < PATIENCE
+
+
 def line_of_nobody() -> str:
     """A telegram of a meter that isn't known."""
     from .meters import line_of

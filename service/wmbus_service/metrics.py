@@ -63,7 +63,7 @@ class Figures(Collector):
         for name, (words, query) in GAUGES.items():
             yield GaugeMetricFamily(f"wmbus_{name}", words, value=database.execute(query).fetchone()[0])
         yield GaugeMetricFamily("wmbus_session_age_seconds", "since the service last looked for lines",
-                                value=time.time() - self.service.session_made)
+                                value=time.monotonic() - self.service.session_made)
         yield GaugeMetricFamily("wmbus_trouble", "1 where sessions stand still, and the log says why",
                                 value=float(bool(self.service.trouble)))
 

@@ -81,7 +81,8 @@ class Service:
         self.config, self.database = config, database
         self.sessions = Sessions(config, database)
         self.ending = Ending()
-        self.session_made = time.time()
+        # (by the clock that nobody sets)
+        self.session_made = time.monotonic()
         self.trouble = ""
         self.let_go_at = 0.0
 
@@ -117,7 +118,7 @@ class Service:
         send_downlinks(self.config, self.database, time.time())
         count = self.sessions.next(time.time())
         send_downlinks(self.config, self.database, time.time())
-        self.session_made = time.time()
+        self.session_made = time.monotonic()
         self._let_go(1 + count // retention.PIECE)
         return count
 
