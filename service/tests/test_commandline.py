@@ -189,6 +189,11 @@ def test_export_of_a_meter_in_large_letters(place: Place) -> None:
         database.execute("insert into record values (1, 0, 'volume', 'm3', -3, '5', 'instantaneous', 0, 0, 0, '', '')")
     told = [json.loads(line) for line in place.said("export", "--json", "--meter", address.upper()).splitlines()]
     assert [(it["address"], it["value"]) for it in told] == [(address, "0.005")]
+def test_check_of_a_format(place: Place) -> None:
+    """A format that line_feed doesn't know is named, with its receiver."""
+    assert "right: receiver attic" in place.run("check").output
+    place.config.write_text(place.config.read_text().replace('format = "hex"', 'format = "rtl433"'))
+    assert "receivers.attic.format: line_feed doesn't take the format rtl433" in place.fault("check")
 
 
 def test_status_of_what_flowed_backward(place: Place) -> None:

@@ -17,7 +17,7 @@ from pathlib import Path
 from . import meters, store
 from .config import Config, Mqtt, Receiver, unproved_words, words_of
 from .receiving import feed_of
-from .steps import ProgramFailed, run_steps, state_text
+from .steps import ProgramFailed, output_of, run_steps, state_text
 from .trouble import Trouble
 
 LEAST_ROOM = 256 << 20
@@ -61,7 +61,7 @@ def check(config: Config) -> Iterator[Finding]:
     if not config.receivers:
         yield Finding("receivers", "receivers: there are none; docs/SERVICE.md has examples")
     for name, told in config.receivers.items():
-        yield tried(f"receiver {name}", lambda name=name, told=told: look_at_receiver(name, told))  # type: ignore[misc]
+        yield tried(f"receiver {name}", lambda name=name, told=told: look_at_feed(config, name, told))  # type: ignore[misc]
         yield tried(f"downlinks of {name}", lambda name=name, told=told: look_at_downlinks(name, told))  # type: ignore[misc]
     if config.mqtt:
         yield tried(f"MQTT broker {config.mqtt.host}:{config.mqtt.port}", lambda: look_at_broker(config, config.mqtt))
@@ -118,9 +118,22 @@ def look_at_meters(config: Config) -> None:
         raise Trouble(config.database, "no meter is known", "`wmbus-service add` or `wmbus-service import` adds some, or name a `roster`")
 
 
+def look_at_feed(config: Config, name: str, told: Receiver) -> None:
+    """A receiver, and whether line_feed takes what it prints."""
+    look_at_receiver(name, told)
+    _, form = feed_of(name, told)
+    try:
+        output_of([*words_of(config.programs.line_feed), form], [])
+    except ProgramFailed:
+        raise Trouble(f"receivers.{name}.format", f"line_feed doesn't take the format {form}",
+                      "docs/FORMATS.md, \"What radio receivers print\", has all formats") from None
+
+
 def look_at_receiver(name: str, told: Receiver) -> None:
     """A radio's programs and its device."""
     command, _ = feed_of(name, told)
+    if told.profile and told.command:
+        raise Trouble(f"receivers.{name}", "it has a profile and a command, which isn't started", "leave one of them out")
     try:
         programs = list(programs_in(command))
     except ValueError as fault:
