@@ -473,6 +473,9 @@ def test_check_of_a_large_roster(place: Place) -> None:
     roster.chmod(0o600)
     place.config.write_text(f'roster = "{roster}"\n' + place.config.read_text())
     assert f"right: roster {roster}" in place.run("check").output
+    # (as a database has it whose collector is another one, over which the service doesn't start)
+    place.said("add", ADDRESS, "--own", OWN[:-1] + "2", given=KEY)
+    assert f"{roster}: the collector's own address is {OWN}" in place.fault("check")
     roster.write_text(roster.read_text() + "meter 93150000000201\n")
     assert "doesn't take the roster" in place.fault("check")
 

@@ -101,9 +101,13 @@ def look_at_steps(config: Config) -> None:
 
 
 def look_at_roster(config: Config) -> None:
-    """A roster that the program doesn't take."""
-    for piece in meters.pieces_of(meters.read_roster(Path(config.roster))):
+    """A roster that the program doesn't take, or that is of another collector than the database."""
+    text = meters.read_roster(Path(config.roster))
+    for piece in meters.pieces_of(text):
         meters.judge_roster(words_of(config.programs.steps), piece, config.roster)
+    if config.database.exists():
+        with closing(store.open_store(config.database)) as database:
+            meters.judge_own(database, meters.meters_in(text)[0], config.roster)
 
 
 def look_at_meters(config: Config) -> None:

@@ -27,11 +27,22 @@ def count(database: sqlite3.Connection) -> int:
     return int(number)
 
 
-def set_own(database: sqlite3.Connection, own: str, place: object) -> None:
-    """The collector's own address, which stays what it is: meters know it by their downlinks."""
+def judge_known(database: sqlite3.Connection, address: str, place: object) -> None:
+    """A meter that isn't known."""
+    if not database.execute("select 1 from meter where address = ?", (address,)).fetchone():
+        raise Trouble(place, f"there is no meter {address}", "`wmbus-service status` lists the meters")
+
+
+def judge_own(database: sqlite3.Connection, own: str, place: object) -> None:
+    """The collector's own address stays what it is: meters know it by their downlinks."""
     known = store.setting(database, "own")
     if known is not None and known != own:
         raise Trouble(place, f"the collector's own address is {own}, and the database has {known}", "write that of the database there")
+
+
+def set_own(database: sqlite3.Connection, own: str, place: object) -> None:
+    """The collector's own address."""
+    judge_own(database, own, place)
     store.set_setting(database, "own", own)
 
 
