@@ -189,6 +189,15 @@ def test_export_of_a_meter_in_large_letters(place: Place) -> None:
         database.execute("insert into record values (1, 0, 'volume', 'm3', -3, '5', 'instantaneous', 0, 0, 0, '', '')")
     told = [json.loads(line) for line in place.said("export", "--json", "--meter", address.upper()).splitlines()]
     assert [(it["address"], it["value"]) for it in told] == [(address, "0.005")]
+def test_status_of_a_receiver_that_cant_send(place: Place) -> None:
+    """It is named by its name (docs/SERVICE.md, "Receivers")."""
+    place.said("add", ADDRESS, "--own", OWN, given=KEY)
+    with sqlite3.connect(place.folder / "wmbus/wmbus.db") as database:
+        database.execute("insert into outbox (receiver, address, down, frame, command, made, missed)"
+                         " values ('roof', ?, 4, '', 1, 100, 'it can''t send')", (ADDRESS,))
+    assert f"downlink 4 for {ADDRESS} wasn't sent by receiver roof: it can't send" in place.said("status")
+
+
 def test_check_of_a_format(place: Place) -> None:
     """A format that line_feed doesn't know is named, with its receiver."""
     assert "right: receiver attic" in place.run("check").output

@@ -88,7 +88,7 @@ def in_words(told: dict[str, Any]) -> Iterator[str]:
     for it in told["commands"]:
         yield f"command {it['id']} for {it['address']}: {it['state']}, sent {it['tries']} times"
     for it in told["downlinks_missed"]:
-        yield f"downlink {it['down']} for {it['address']} wasn't sent: {it['missed']}"
+        yield f"downlink {it['down']} for {it['address']} wasn't sent by receiver {it['receiver'] or '(none)'}: {it['missed']}"
     for it in told["refusals"]:
         yield f"refused {it['times']} times for {it['address']}: {it['words']} (docs/FORMATS.md says what to do)"
     for it in told["strangers"]:
