@@ -18,7 +18,7 @@ from dataclasses import replace
 from pathlib import Path
 
 import pytest
-from wmbus_service import receiving, retention, schema, service, session, steps, store
+from wmbus_service import receiving, retention, schema, service, session, status, steps, store
 from wmbus_service.commandline import main
 from wmbus_service.config import Config, Keep, Programs, Receiver
 from wmbus_service.ending import Ending
@@ -442,6 +442,18 @@ def test_what_retention_costs(house: House) -> None:
         house.database.set_progress_handler(None, 0)
     assert not house.all("select id from reading where payload is not null")
     assert len(steps) * 100 < 5000
+
+
+def test_what_status_costs(house: House) -> None:
+    """A meter's last reading is found in an index, and none of its others is read for it: a large house has millions."""
+    address = house.meters[0].name
+    rows = [(number, number, address, number, int(NOW), None, "00", None, 0, NOW) for number in range(1, 5001)]
+    house.database.executemany("insert into reading values (?, ?, ?, ?, ?, ?, ?, ?, ?, ?)", rows)
+    counted: list[None] = []
+    house.database.set_progress_handler(lambda: counted.append(None), 100)
+    assert status.meter(house.database, (address, "", None, 0, None), NOW)["counter"] == 5000
+    house.database.set_progress_handler(None, 0)
+    assert len(counted) * 100 < 10 * 5000
 
 
 def test_what_lines_cost_that_stay(house: House) -> None:

@@ -16,6 +16,8 @@ from .sensors import NUMBER
 from .spool import size_of
 
 LAST = 10
+# (looked for in the index alone, since a meter has many)
+LAST_READING = f"select id, {HEARD}, counter from reading where id = (select max(id) from reading where address = ?)"
 
 
 def figures(config: Config, database: sqlite3.Connection) -> dict[str, Any]:
@@ -49,7 +51,7 @@ def _rows(database: sqlite3.Connection, query: str) -> list[dict[str, Any]]:
 def meter(database: sqlite3.Connection, row: tuple[Any, ...], now: float) -> dict[str, Any]:
     """A meter and its last reading."""
     told = dict(zip(("address", "name", "waits", "holds", "receiver"), row, strict=True))
-    last = database.execute(f"select id, {HEARD}, counter from reading where address = ? order by id desc limit 1", (row[0],)).fetchone()
+    last = database.execute(LAST_READING, (row[0],)).fetchone()
     if last is None:
         return told | {"age": None, "counter": None, "values": []}
     return told | {"age": round(now - last[1]), "counter": last[2], "values": values_of(database, last[0])}
