@@ -115,6 +115,27 @@ def test_a_folder_that_takes_no_lock(tmp_path: Path) -> None:
     assert child.status == 0, (tmp_path / "log").read_text()
 
 
+@as_root
+def test_status_over_a_folder_that_cant_be_written(tmp_path: Path) -> None:
+    """What is known is told also where the file system became read-only, as after a fault of its disk, and whether a service runs."""
+    folder = tmp_path / "wmbus"
+    store.prepare_folder(folder)
+    with closing(store.open_store(folder / "wmbus.db", is_new=True)):
+        os.close(service.lock(folder))
+        for path in (tmp_path.parent.parent, tmp_path.parent, tmp_path):
+            path.chmod(0o755)
+        for path in (*folder.iterdir(), folder):
+            os.chown(path, NOBODY, NOBODY)
+            path.chmod(0o500 if path.is_dir() else 0o400)
+
+        def look() -> None:
+            os.seteuid(NOBODY)
+            assert "the service doesn't run" in status.status(Config(folder=folder), False)
+        child = Child(tmp_path / "log", look)
+        until(lambda: not child.is_running())
+    assert child.status == 0, (tmp_path / "log").read_text()
+
+
 def test_rights(tmp_path: Path) -> None:
     """Keys stand in the folder, so others may have no right on it, nor on the database and the roster."""
     folder = tmp_path / "wmbus"
