@@ -20,6 +20,7 @@ from pathlib import Path
 import pytest
 from wmbus_service import receiving, retention, schema, service, session, status, steps, store
 from wmbus_service.commandline import main
+from wmbus_service.commands import put_command
 from wmbus_service.config import Config, Keep, Programs, Receiver
 from wmbus_service.ending import Ending
 from wmbus_service.service import Service
@@ -283,6 +284,24 @@ def test_a_line_is_heard_at_once(house: House, tmp_path: Path) -> None:
                     until(lambda: database.execute("select count(*) from reading").fetchone() == (1,))
             time.sleep(0.5)
             assert database.execute("select count(*) from reading").fetchone() == (1,)
+    finally:
+        assert child.end(signal.SIGTERM) == 0
+
+
+def test_a_command_beside_sessions_that_follow_each_other(house: House, tmp_path: Path, monkeypatch: pytest.MonkeyPatch) -> None:
+    """While there is much to hear, as behind a long pause, and a small machine takes long for each session, what an operator, the page or
+    the broker writes comes between two of them."""
+    program = tmp_path / "steps"
+    program.write_text(f'#!/bin/sh\nsleep 2\nexec {TOP}/tests/reference/steps "$@"\n')
+    program.chmod(0o755)
+    house.spool("".join(house.whole(house.meters[0]) for _ in range(40)))
+    house.database.close()
+    monkeypatch.setattr(session, "MOST", 1)
+    child = Child(tmp_path / "log", lambda: session_with(steps.run_steps, replace(house.config, programs=Programs(steps=str(program)))))
+    try:
+        with closing(store.open_store(house.config.database)) as database:
+            until(lambda: database.execute("select count(*) from line").fetchone() > (0,))
+            assert put_command(database, "a", house.meters[0].name, "01", NOW)
     finally:
         assert child.end(signal.SIGTERM) == 0
 

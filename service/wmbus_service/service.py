@@ -24,6 +24,8 @@ log = logging.getLogger("wmbus")
 # after trouble it is tried again, less and less often
 LEAST_PAUSE, MOST_PAUSE = 1.0, 60.0
 LOCK_TRIES, LOCK_PAUSE = 5, 0.1
+# so much of its time a session leaves to others who write, where the next one follows at once; SQLite tries again each tenth of a second
+LEFT, MOST_LEFT = 0.05, 0.11
 # so often it is told that it lives where nobody says how often
 ALIVE = 60.0
 # so often it is looked for what is kept no longer
@@ -94,11 +96,12 @@ class Service:
         pause, watch = LEAST_PAUSE, Watch(self.config.spool)
         while not self.ending.is_set():
             watch.forget()
-            watched = None
+            watched, began = None, time.monotonic()
             try:
                 count = self.turn()
                 pause, self.trouble = LEAST_PAUSE, ""
-                wait = 0.0 if count >= MOST // 2 or count >= self.sessions.most else self.config.interval
+                left = min(LEFT * (time.monotonic() - began), MOST_LEFT)
+                wait = left if count >= MOST // 2 or count >= self.sessions.most else self.config.interval
                 # (behind a session the next one waits for the interval, so that lines that come one by one are heard together)
                 watched = None if count else watch.opened
             except (Trouble, OSError, sqlite3.Error) as fault:
