@@ -11,7 +11,7 @@ import sqlite3
 import subprocess
 import time
 from collections.abc import Iterator
-from contextlib import redirect_stderr, redirect_stdout, suppress
+from contextlib import closing, redirect_stderr, redirect_stdout, suppress
 from dataclasses import dataclass
 from pathlib import Path
 
@@ -189,6 +189,28 @@ def test_export_of_a_meter_in_large_letters(place: Place) -> None:
         database.execute("insert into record values (1, 0, 'volume', 'm3', -3, '5', 'instantaneous', 0, 0, 0, '', '')")
     told = [json.loads(line) for line in place.said("export", "--json", "--meter", address.upper()).splitlines()]
     assert [(it["address"], it["value"]) for it in told] == [(address, "0.005")]
+@pytest.mark.parametrize("piece", [200, 1, 2])
+def test_an_export_that_nobody_reads_on(place: Place, monkeypatch: pytest.MonkeyPatch, piece: int) -> None:
+    """An export that stands still, as in a pager, holds nothing of the database, whose log would grow until the disk is full (SQLite,
+    "Write-Ahead Logging", 6): read on, it has each value once and in order."""
+    monkeypatch.setattr(exporting, "PIECE", piece, raising=False)
+    place.said("add", ADDRESS, "--own", OWN, given=KEY)
+    wanted = [(number, place_of) for number in range(1, 6) for place_of in range(number % 3)]
+    with closing(open_store(place.folder / "wmbus/wmbus.db")) as database, closing(open_store(place.folder / "wmbus/wmbus.db")) as other:
+        for number in range(1, 6):
+            other.execute("insert into reading values (?, ?, ?, ?, 100, null, null, null, 0, 100)", (number, number, ADDRESS, number))
+        for number, place_of in wanted:
+            other.execute("insert into record values (?, ?, 'volume', 'm3', 0, ?, 'instantaneous', 0, 0, 0, '', '')",
+                          (number, place_of, str(10 * number + place_of)))
+        rows = exporting.as_csv(database, None, 0)
+        told = [next(rows) for _ in range(3)]
+        other.execute("insert into total values ('more', 1)")
+        _, logged, done = other.execute("pragma wal_checkpoint(passive)").fetchone()
+        assert done == logged
+        found = [tuple(map(int, (row.split(",")[3], row.split(",")[5]))) for row in (told + list(rows))[1:]]
+    assert found == [(number, 10 * number + place_of) for number, place_of in wanted]
+
+
 def test_status_of_a_receiver_that_cant_send(place: Place) -> None:
     """It is named by its name (docs/SERVICE.md, "Receivers")."""
     place.said("add", ADDRESS, "--own", OWN, given=KEY)
