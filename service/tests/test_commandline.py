@@ -189,6 +189,13 @@ def test_export_of_a_meter_in_large_letters(place: Place) -> None:
         database.execute("insert into record values (1, 0, 'volume', 'm3', -3, '5', 'instantaneous', 0, 0, 0, '', '')")
     told = [json.loads(line) for line in place.said("export", "--json", "--meter", address.upper()).splitlines()]
     assert [(it["address"], it["value"]) for it in told] == [(address, "0.005")]
+    # (no file that is empty by a slip of the hand is taken for a silent meter's)
+    assert f"there is no meter {OWN}" in place.fault("export", "--meter", OWN)
+    for words in (("--lines", "--meter", ADDRESS), ("--state", "--since", "5")):
+        file = place.folder / "file"
+        assert "values alone" in place.fault("export", words[0], str(file), *words[1:]) and not file.exists()
+
+
 @pytest.mark.parametrize("piece", [200, 1, 2])
 def test_an_export_that_nobody_reads_on(place: Place, monkeypatch: pytest.MonkeyPatch, piece: int) -> None:
     """An export that stands still, as in a pager, holds nothing of the database, whose log would grow until the disk is full (SQLite,

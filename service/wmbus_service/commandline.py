@@ -274,14 +274,19 @@ def _command(asked: argparse.Namespace) -> int:
 
 
 def _export(asked: argparse.Namespace) -> int:
+    if (asked.state or asked.lines) and (asked.meter or asked.since):
+        raise Trouble("the export", "--meter and --since are of values alone", "leave them out: all meters are in a state and in lines")
     with _opened(_config(asked)) as database:
         if asked.state:
             _write_own(asked.state, [exporting.state(database)])
         elif asked.lines:
             _write_own(asked.lines, exporting.lines(database))
         else:
+            address = asked.meter and asked.meter.lower()
+            if address is not None:
+                meters.judge_known(database, address, "the export")
             rows = exporting.as_json if asked.json else exporting.as_csv
-            sys.stdout.writelines(rows(database, asked.meter and asked.meter.lower(), asked.since))
+            sys.stdout.writelines(rows(database, address, asked.since))
     return DONE
 
 
