@@ -119,6 +119,11 @@ def test_from_nothing_to_readings(place: Place) -> None:
     assert "no meter" in place.fault("command", "0" * 16, "01")
     assert place.said("command", "--cancel", "a1") == "command a1 is cancelled\n"
     assert "no command" in place.fault("command", "--cancel", "a2")
+    # (as a script has it whose variable is empty: it asks for no command of its own id, and for none at all)
+    assert "its id isn't" in place.fault("command", ADDRESS, "01", "--id", "")
+    assert "no command" in place.fault("command", ADDRESS, "01", "--cancel", "")
+    with sqlite3.connect(place.folder / "wmbus/wmbus.db") as database:
+        assert database.execute("select id from command").fetchall() == [("a1",)]
 
 
 @pytest.mark.parametrize("address, own, key", [(f"{ADDRESS}\u200b", OWN, KEY), (ADDRESS, f"\ufeff{OWN}", KEY),

@@ -261,13 +261,13 @@ def _rekey(asked: argparse.Namespace) -> int:
 def _command(asked: argparse.Namespace) -> int:
     config = _config(asked)
     with _opened(config) as database:
-        if asked.cancel:
+        if asked.cancel is not None:
             state = cancel_command(database, asked.cancel, time.time(), Publications(config.mqtt, database))
             print(f"command {asked.cancel} is {state}" + ("; the next session cancels it" if state in ("queued", "sent") else ""))
             return DONE
         if not asked.address or not asked.payload:
             raise Trouble("the command", "it has no METER or no HEX", "`wmbus-service command --help` shows both")
-        ident = asked.id or f"cli-{secrets.token_hex(4)}"
+        ident = f"cli-{secrets.token_hex(4)}" if asked.id is None else asked.id
         is_new = put_command(database, ident, asked.address, asked.payload, time.time())
     print(f"command {ident} waits" if is_new else f"command {ident} was taken before; nothing is sent again")
     return DONE
