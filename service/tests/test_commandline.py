@@ -155,6 +155,20 @@ def test_a_meter_comes_with_its_name(place: Place, monkeypatch: pytest.MonkeyPat
     assert [it["name"] for it in json.loads(place.said("status", "--json"))["meters"]] == ["cellar"]
 
 
+@pytest.mark.parametrize("words, wanted", [(["status"], "K\\xfcche \\u0141"), (["status", "--json"], '"K\\u00fcche \\u0141"'),
+                                           (["export"], "K\\xfcche \\u0141"), (["export", "--json"], '"K\\u00fcche \\u0141"')])
+def test_a_terminal_of_another_encoding(place: Place, words: list[str], wanted: str) -> None:
+    """What a terminal can't show is told by its number, which JSON has in its own way (RFC 8259, 7), and ends no command."""
+    place.said("add", ADDRESS, "--own", OWN, "--name", "K\u00fcche \u0141", given=KEY)
+    with sqlite3.connect(place.folder / "wmbus/wmbus.db") as database:
+        database.execute("insert into reading values (1, 1, ?, 1, 100, null, null, null, 0, 100)", (ADDRESS,))
+        database.execute("insert into record values (1, 0, 'volume', 'm3', -3, '5', 'instantaneous', 0, 0, 0, '', '')")
+    environment = os.environ | {"PYTHONIOENCODING": "ascii", "PYTHONPATH": str(TOP / "service")}
+    done = run([PYTHON, "-m", "wmbus_service", "--config", place.config, *words], check=False, env=environment)
+    assert done.returncode == 0, done.stderr
+    assert wanted in done.stdout
+
+
 def test_strangers_that_are_known_now(place: Place) -> None:
     """A meter that was heard before it was added is no longer among those that aren't known."""
     place.said("add", ADDRESS, "--own", OWN, given=KEY)
@@ -581,6 +595,20 @@ def test_output_that_takes_nothing(command: str) -> None:
             done = subprocess.run([PYTHON, f"{TOP}/service/{command}", "--help"], check=False, stdout=opened, stderr=subprocess.PIPE, text=True,
                                   timeout=PATIENCE)
         assert done.returncode == 1 and told in done.stderr and "Traceback" not in done.stderr and bool(done.stderr) == bool(told)
+
+
+@pytest.mark.parametrize("closed, words, wanted", [
+    ("<&-", ["check"], f"right: program {STEPS}"), ("<&-", ["add", ADDRESS, "--own", OWN], "the program doesn't take the roster"),
+    (">&-", ["status"], ""), ("<&- >&-", ["backup", "copy.db"], "")])
+def test_a_closed_stream(place: Place, closed: str, words: list[str], wanted: str) -> None:
+    """Where a standard stream is closed, as a supervisor may leave it, what is given to a program doesn't stand in its place, and no command
+    ends with a trace."""
+    if not wanted:
+        place.said("add", ADDRESS, "--own", OWN, given=KEY)
+    started: list[str | Path] = ["sh", "-c", f'exec "$@" {closed}', "sh", PYTHON, "-m", "wmbus_service", "--config", place.config, *words]
+    done = run(started, check=False, env=os.environ | {"PYTHONPATH": str(TOP / "service")}, cwd=place.folder)
+    assert wanted in done.stdout + done.stderr and "Traceback" not in done.stderr
+    assert done.returncode == int(bool(wanted))
 
 
 def test_demo() -> None:

@@ -16,8 +16,8 @@ from pathlib import Path
 
 from . import backup, checking, demo, exporting, importing, key_lists, meters, service, store
 from .commands import cancel_command, put_command, put_key
-from .config import Config, Page, Programs, read_config
-from .printing import leave_unread, parsed
+from .config import Config, Page, Programs, read_config, words_of
+from .printing import leave_unread, open_streams, parsed
 from .publications import Publications
 from .receiving import Receiving
 from .status import status
@@ -33,6 +33,7 @@ MOST_COUNT = 65_535
 
 def main(given: list[str]) -> int:
     """Does what is asked for; the exit status."""
+    open_streams()
     logging.basicConfig(level=logging.INFO, format="%(levelname)s %(message)s", stream=sys.stderr)
     try:
         asked = parsed(words(), given)

@@ -51,7 +51,7 @@ def _csv_line(fields: Iterable[object]) -> str:
 def as_json(database: sqlite3.Connection, address: str | None, since: int) -> Iterator[str]:
     """The values as JSON objects, one a line."""
     for row in values(database, address, since):
-        yield json.dumps(row, ensure_ascii=False) + "\n"
+        yield json.dumps(row) + "\n"
 
 
 def state(database: sqlite3.Connection) -> str:

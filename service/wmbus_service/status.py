@@ -108,4 +108,4 @@ def status(config: Config, is_json: bool) -> str:
         told = figures(config, database)
     finally:
         database.close()
-    return json.dumps(told, ensure_ascii=False, indent=1) if is_json else "\n".join(in_words(told))
+    return json.dumps(told, indent=1) if is_json else "\n".join(in_words(told))
