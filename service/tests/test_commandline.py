@@ -9,6 +9,7 @@ import pty
 import signal
 import sqlite3
 import subprocess
+import sys
 import time
 from collections.abc import Iterator
 from contextlib import closing, redirect_stderr, redirect_stdout, suppress
@@ -487,12 +488,24 @@ def test_configuration(place: Place) -> None:
 
 @pytest.mark.parametrize("words", [("export", "--since", "9" * 19), ("export", "--since", "9" * 5000), ("export", "--since", "today"),
                                    ("export", "--meter", "\udcfc"), ("command", "--cancel", "\udcfc"), ("command", "\udcfc", "01"),
-                                   ("rekey", "\udcfc")])
+                                   ("rekey", "\udcfc"), ("demo", "--steps", "it's"), ("demo", "--steps", "")])
 def test_words_that_cant_be_asked_for(place: Place, words: tuple[str, ...]) -> None:
-    """A moment beyond all that a database has, and what isn't in UTF-8, are faulty words."""
+    """A moment beyond all that a database has, what isn't in UTF-8, and what is no command are faulty words."""
     place.said("add", ADDRESS, "--own", OWN, given=KEY)
     done = place.run(*words, given=KEY)
     assert done.status == 2 and "usage: wmbus-service" in done.errors
+
+
+def test_a_package_that_isnt_there(place: Place, monkeypatch: pytest.MonkeyPatch) -> None:
+    """Where Debian's package isn't installed that a command needs, that is said, and `check` looks at all else."""
+    for name in ("broker", "kem"):
+        monkeypatch.setitem(sys.modules, f"wmbus_service.{name}", None)  # type: ignore[misc]
+        monkeypatch.delattr(sys.modules["wmbus_service"], name, raising=False)
+    place.config.write_text(place.config.read_text() + "[mqtt]\n")
+    said = place.fault("check")
+    assert "wrong: MQTT broker 127.0.0.1:1883: " in said and "receivers.attic: it can't send" in said
+    (place.folder / "keys.kem").write_text("<MetersInOrder/>")
+    assert "names the packages of Debian" in place.fault("import", str(place.folder / "keys.kem"), "--own", OWN)
 
 
 def test_check_of_a_database_that_isnt_whole(place: Place) -> None:

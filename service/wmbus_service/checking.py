@@ -71,9 +71,9 @@ def tried(name: str, look: Callable[[], object]) -> Finding:
     """Looks at something; what is wrong."""
     try:
         look()
-    except (Trouble, OSError, sqlite3.Error) as fault:
+    except (Trouble, OSError, ImportError, sqlite3.Error) as fault:
         told = store.trouble_of(name, fault) if isinstance(fault, sqlite3.Error) else fault
-        return Finding(name, f"{name}: {told}" if isinstance(told, OSError) else str(told))
+        return Finding(name, str(told) if isinstance(told, Trouble) else f"{name}: {told}")
     return Finding(name)
 
 

@@ -44,6 +44,8 @@ def main(given: list[str]) -> int:
         said = str(trouble)
     except sqlite3.Error as fault:
         said = str(store.trouble_of(Path("the database"), fault))
+    except ImportError as fault:
+        said = f"{fault}; docs/SERVICE.md names the packages of Debian that it wants"
     except BrokenPipeError:
         leave_unread()
         return TROUBLE
@@ -137,7 +139,7 @@ def _demo_words(command: Command) -> None:
     made.add_argument("--port", metavar="N", type=_count, default=Page().port,
                       help=f"where the page is ({Page().port}); 0 takes a free one")
     made.add_argument("--text", action="store_true", help="says what was read, in place of a page, and ends")
-    made.add_argument("--steps", metavar="PROGRAM", default=Programs().steps,
+    made.add_argument("--steps", metavar="PROGRAM", type=_program, default=Programs().steps,
                       help=f"the program of the sessions, where it isn't {Programs().steps}")
 
 
@@ -146,6 +148,16 @@ def _count(text: str) -> int:
     if not text.isascii() or not text.isdigit() or int(text) > MOST_COUNT:
         raise argparse.ArgumentTypeError(f"this is no number up to {MOST_COUNT}")
     return int(text)
+
+
+def _program(text: str) -> str:
+    """A program with its first words."""
+    try:
+        if words_of(text):
+            return text
+    except ValueError:
+        pass
+    raise argparse.ArgumentTypeError("this is no command")
 
 
 def _moment(text: str) -> int:
