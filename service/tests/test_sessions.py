@@ -1,6 +1,7 @@
 """Sessions in this process: which lines they take, what they do where the program fails, and when ticks are due."""
 from __future__ import annotations
 
+import itertools
 import json
 import os
 import random
@@ -226,6 +227,23 @@ def test_whole_lines_alone(house: House) -> None:
     assert house.all("select file, taken from source") == [(later.name, len(third))]
 
 
+def test_a_file_that_would_come_back(house: House, monkeypatch: pytest.MonkeyPatch) -> None:
+    """The place of a file that went is forgotten once the folder without it stands on the disk (fsync(2)): after a power cut the file may be
+    there again, and its lines would be heard a second time."""
+    first = house.spool(house.whole(house.meters[0]))
+    house.spool(house.whole(house.meters[0]))
+    synced: list[tuple[bool, int]] = []
+
+    def sync(opened: int) -> None:
+        if os.readlink(f"/proc/self/fd/{opened}") == str(house.config.spool):
+            synced.append((first.exists(), len(house.all("select file from source"))))
+    monkeypatch.setattr(spool, "sync", sync)
+    house.hear()
+    house.sessions.next(NOW)
+    assert not first.exists() and len(house.all("select file from source")) == 1
+    assert synced[-1] == (False, 2)
+
+
 def test_a_file_that_is_written_stays(house: House) -> None:
     """As long as somebody holds the lock of a file it stays, though a later one is there."""
     opened = new_file(house.config.spool, "attic")
@@ -275,14 +293,16 @@ def test_files_that_went(house: House) -> None:
     assert len(house.all("select file from source")) <= 2
 
 
-def test_an_empty_file_that_goes_meanwhile(house: House, monkeypatch: pytest.MonkeyPatch) -> None:
+@pytest.mark.parametrize("asked", [1, 2, 3])
+def test_an_empty_file_that_goes_meanwhile(house: House, monkeypatch: pytest.MonkeyPatch, asked: int) -> None:
     """A receiver that heard nothing takes its file away, at whichever moment of a session: the others' lines are heard."""
     gone = house.spool("")
     house.spool(house.whole(house.meters[0]))
-    place_of = spool.place_of
+    place_of, places = spool.place_of, itertools.count(1)
 
     def going(*words: Any) -> int:
-        gone.unlink(missing_ok=True)
+        if next(places) == asked:
+            gone.unlink(missing_ok=True)
         return place_of(*words)
     monkeypatch.setattr(spool, "place_of", going)
     house.hear()

@@ -17,7 +17,7 @@ from types import FrameType
 
 from .config import Config, Receiver, words_of
 from .ending import Ending
-from .spool import size_of, sync
+from .spool import size_of, sync_names
 from .store import prepare_folder
 from .trouble import Trouble
 
@@ -61,9 +61,7 @@ def new_file(spool: Path, name: str) -> int:
     path = spool / f"{name}.{max(numbers, default=0) + 1:08d}.{time.time_ns()}.lines"
     opened = os.open(path, os.O_WRONLY | os.O_CREAT | os.O_EXCL | os.O_APPEND | os.O_CLOEXEC, 0o600)
     fcntl.flock(opened, fcntl.LOCK_EX | fcntl.LOCK_NB)
-    folder = os.open(spool, os.O_RDONLY)
-    sync(folder)
-    os.close(folder)
+    sync_names(spool)
     return opened
 
 
