@@ -161,14 +161,37 @@ def test_a_program_that_hangs(tmp_path: Path, monkeypatch: pytest.MonkeyPatch) -
                   receivers={"attic": Receiver(command=command, format="-")})
     (tmp_path / "wmbus/spool").mkdir(parents=True)
     Receiving(told, "attic")._feed()
-    status = Path(f"/proc/{(tmp_path / 'hangs').read_text().strip()}/stat")
+    until(lambda: has_ended((tmp_path / "hangs").read_text()), 5)
 
-    def has_ended() -> bool:
-        with suppress(OSError):
-            # (also what isn't reaped yet)
-            return status.read_text().split()[2] in "ZX"
-        return True
-    until(has_ended, 5)
+
+def has_ended(pid: str) -> bool:
+    """Whether a process runs no more."""
+    with suppress(OSError):
+        # (also what isn't reaped yet)
+        return Path(f"/proc/{pid.strip()}/stat").read_text().split()[2] in "ZX"
+    return True
+
+
+@pytest.mark.parametrize("number", [signal.SIGTERM, signal.SIGINT, signal.SIGHUP])
+def test_what_a_receiver_started_ends_with_it(tmp_path: Path, number: int) -> None:
+    """However it is told to end, also as a terminal does that is closed (signal(7), SIGHUP): what goes on would hold the stick."""
+    command = f"echo $$ >{tmp_path}/next; mv {tmp_path}/next {tmp_path}/radio; exec sleep 60"
+    told = Config(folder=tmp_path / "wmbus", programs=Programs(line_feed="sh -c cat"),
+                  receivers={"attic": Receiver(command=command, format="-")})
+
+    def receive() -> None:
+        # (the tests may be run by nohup)
+        signal.signal(number, signal.SIG_DFL)
+        Receiving(told, "attic").run()
+    child = Child(tmp_path / "log", receive)
+    until((tmp_path / "radio").exists)
+    radio = (tmp_path / "radio").read_text()
+    try:
+        assert child.end(number) == 0
+        assert has_ended(radio)
+    finally:
+        if not has_ended(radio):
+            os.kill(int(radio), signal.SIGKILL)
 
 
 def test_profiles() -> None:

@@ -80,14 +80,16 @@ class Receiving:
         self.ending = Ending()
 
     def run(self) -> None:
-        """Feeds the spool until it gets SIGTERM or SIGINT."""
+        """Feeds the spool until it gets SIGTERM or SIGINT, or the terminal is closed at which somebody tries it."""
         def end(_number: int, _frame: FrameType | None) -> None:
             # (who waits for the feed's end sees it then, and cleans up)
             self.ending.set()
             self._signal(signal.SIGTERM)
 
-        for number in (signal.SIGTERM, signal.SIGINT):
-            signal.signal(number, end)
+        for number in (signal.SIGTERM, signal.SIGINT, signal.SIGHUP):
+            # (what nohup has a program ignore it ignores)
+            if signal.getsignal(number) != signal.SIG_IGN:
+                signal.signal(number, end)
         prepare_folder(self.config.folder)
         was_full = False
         while not self.ending.is_set():
