@@ -467,6 +467,7 @@ def test_configuration(place: Place) -> None:
         folder + "speed = 1\n": "speed is no setting",
         folder + "interval = 0\n": "interval isn't a number above 0",
         folder + "interval = true\n": "interval isn't a number above 0",
+        folder + "spool_bytes = 0\n": "spool_bytes is 0",
         folder + "[receivers.Attic]\n": "receivers.Attic: a name has",
         folder + "[receivers.attic]\nprofile = 1\n": "receivers.attic.profile isn't a text",
         folder + "[mqtt]\nport = -1\n": "mqtt.port isn't a number",

@@ -185,6 +185,8 @@ def read_config(path: Path) -> Config:
     assert isinstance(config, Config)
     for known in dataclasses.fields(Programs):
         _look_at_program(path, known, getattr(config.programs, known.name))
+    if not config.spool_bytes:
+        raise Trouble(path, "spool_bytes is 0, and no receiver would hear anything", "leave it out, or name more")
     return config
 
 
