@@ -475,6 +475,9 @@ def test_configuration(place: Place) -> None:
         folder + '[programs]\nsteps = "/opt/tim\'s/wmbus steps"\n': "programs.steps isn't a command",
         folder + '[programs]\nline_merge = "line\'merge"\n': "programs.line_merge isn't a command",
         folder + '[programs]\nline_feed = ""\n': "programs.line_feed is empty",
+        folder + '[programs]\nline_merge = " "\n': "programs.line_merge is empty",
+        folder + 'roster = "a\\u0000b"\n': "roster has a NUL",
+        'folder = "/a\\u0000b"\n': "folder has a NUL",
     }.items():
         place.config.write_text(text)
         assert said in place.fault("status")
