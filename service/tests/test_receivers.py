@@ -209,15 +209,17 @@ def test_profiles() -> None:
 
 
 def test_programs_that_a_receiver_wants(tmp_path: Path, monkeypatch: pytest.MonkeyPatch) -> None:
-    """`check` names each program of a receiver's command that isn't there, and none that is; also what is no command, and one beside a
-    profile, which isn't started."""
+    """`check` names each program of a receiver's command that isn't there, and none that is; also what is no command, and what a profile
+    makes no use of, as a command beside it."""
     (tmp_path / "rtl_sdr").write_text("#!/bin/sh\n")
     (tmp_path / "rtl_sdr").chmod(0o755)
     monkeypatch.setenv("PATH", f"{tmp_path}:/usr/bin:/bin")
     for told, said in ((Receiver(profile="rtl_wmbus"), "the program rtl_wmbus isn't there"),
                        (Receiver(command="rtl_sdr | absent -x", format="hex"), "the program absent isn't there"),
                        (Receiver(command="cat 'a", format="hex"), "quotation"),
-                       (Receiver(profile="file", file="/dev/null", command="rtl_sdr", format="hex"), "a profile and a command")):
+                       (Receiver(profile="file", file="/dev/null", command="rtl_sdr", format="hex"), "profile file takes no `command`"),
+                       (Receiver(profile="rtl_433", device="/dev/null"), "profile rtl_433 takes no `device`"),
+                       (Receiver(profile="cul", device="/dev/null", port=7), "profile cul takes no `port`")):
         with pytest.raises(Trouble, match=said):
             look_at_receiver("attic", told)
     (tmp_path / "rtl_wmbus").symlink_to(tmp_path / "rtl_sdr")

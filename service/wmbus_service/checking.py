@@ -16,7 +16,7 @@ from pathlib import Path
 
 from . import meters, store
 from .config import Config, Mqtt, Receiver, unproved_words, words_of
-from .receiving import feed_of
+from .receiving import PROFILES, feed_of
 from .steps import ProgramFailed, output_of, run_steps, state_text
 from .trouble import Trouble
 
@@ -28,6 +28,8 @@ QUOTED = re.compile(r"""'[^']*'|"(?:\\.|[^"\\])*"|\\.""", re.DOTALL)
 HIDDEN = {ord(sign): 0xE000 + ord(sign) for sign in BETWEEN}
 # those of wmbus-receiver@.service, by which it reads sticks
 UNIT_GROUPS = ("plugdev", "dialout")
+# what some profiles take of a receiver's settings
+SETTINGS = ("command", "device", "host", "port", "file")
 
 
 @dataclass(frozen=True)
@@ -136,8 +138,10 @@ def look_at_feed(config: Config, name: str, told: Receiver) -> None:
 def look_at_receiver(name: str, told: Receiver) -> None:
     """A radio's programs and its device."""
     command, _ = feed_of(name, told)
-    if told.profile and told.command:
-        raise Trouble(f"receivers.{name}", "it has a profile and a command, which isn't started", "leave one of them out")
+    unused = [word for word in SETTINGS if told.profile and getattr(told, word) and "{" + word + "}" not in PROFILES[told.profile][0]]
+    if unused:
+        raise Trouble(f"receivers.{name}", f"the profile {told.profile} takes no `{unused[0]}`",
+                      "leave it out, or give a `command` with its `format` in place of the profile")
     try:
         programs = list(programs_in(command))
     except ValueError as fault:
