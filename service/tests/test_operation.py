@@ -209,6 +209,13 @@ def test_what_systemd_is_told(house: House, tmp_path: Path, monkeypatch: pytest.
         assert database.execute("select count(*) from reading").fetchone() == (1,)
 
 
+def test_a_socket_of_systemds_that_is_gone(tmp_path: Path, monkeypatch: pytest.MonkeyPatch) -> None:
+    """Where nobody listens any more at the socket that somebody named, as to a program that a service's shell started, it goes on (sd_notify(3):
+    what comes of it is best ignored)."""
+    monkeypatch.setenv("NOTIFY_SOCKET", str(tmp_path / "gone"))
+    service.notify("READY=1")
+
+
 @pytest.mark.parametrize("text", ["", "a line\n"])
 def test_that_it_lives_is_told_within_an_interval(house: House, tmp_path: Path, monkeypatch: pytest.MonkeyPatch, text: str) -> None:
     """Where the interval is longer than systemd waits for a sign of life (sd_watchdog_enabled(3)), it gets one all the same, whether

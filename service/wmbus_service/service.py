@@ -7,6 +7,7 @@ import os
 import socket
 import sqlite3
 import time
+from contextlib import suppress
 from pathlib import Path
 
 from . import meters, retention, store
@@ -66,10 +67,10 @@ def is_locked(folder: Path) -> bool:
 
 
 def notify(text: str) -> None:
-    """Tells systemd, where it asked for it."""
+    """Tells systemd, where it asked for it and hears it."""
     path = os.environ.get("NOTIFY_SOCKET")
     if path:
-        with socket.socket(socket.AF_UNIX, socket.SOCK_DGRAM) as told:
+        with socket.socket(socket.AF_UNIX, socket.SOCK_DGRAM) as told, suppress(OSError):
             told.sendto(text.encode(), f"\0{path[1:]}" if path.startswith("@") else path)
 
 
