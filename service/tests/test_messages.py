@@ -359,6 +359,8 @@ def test_discovery() -> None:
                             "12345678901234567890123456789.012345"),
                            ({"quantity": "volume", "unit": "m3", "value": "raw", "exponent": -2}, None),
                            ({"quantity": "date", "unit": "-", "value": "2007-02-28", "exponent": 0}, '"2007-02-28"'),
+                           # (docs/FORMATS.md: how many days the month has isn't asked; Home Assistant takes a day of ISO 8601 alone)
+                           ({"quantity": "date", "unit": "-", "value": "2007-02-31", "exponent": 0}, None),
                            # (docs/FORMATS.md: a moment is followed by ! where the meter calls it invalid, and then by + in summer time)
                            ({"quantity": "datetime", "unit": "-", "value": "2026-03-29T01:59", "exponent": 0}, '"2026-03-29T01:59"'),
                            ({"quantity": "datetime", "unit": "-", "value": "2026-03-29T03:00+", "exponent": 0}, '"2026-03-29T03:00+"'),
