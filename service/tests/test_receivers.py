@@ -16,7 +16,7 @@ from pathlib import Path
 
 import pytest
 from wmbus_service import receiving
-from wmbus_service.checking import UNIT_GROUPS, look_at_receiver, tried
+from wmbus_service.checking import UNIT_GROUPS, look_at_downlinks, look_at_receiver, tried
 from wmbus_service.config import Config, Programs, Receiver
 from wmbus_service.receiving import PROFILES, Receiving, feed_of
 from wmbus_service.trouble import Trouble
@@ -252,6 +252,18 @@ def test_a_stick_that_the_unit_may_read(tmp_path: Path) -> None:
         child = Child(tmp_path / "log", functools.partial(look, is_right))
         until(lambda: not child.is_running())  # noqa: B023
         assert child.status == 0, (tmp_path / "log").read_text()
+
+
+def test_downlinks_that_the_unit_may_write(tmp_path: Path) -> None:
+    """`check` takes a file or a pipe, and no device: the service's unit has none (systemd.exec(5), PrivateDevices)."""
+    assert "PrivateDevices=yes" in (TOP / "service/systemd/wmbus.service").read_text()
+    os.mkfifo(tmp_path / "pipe")
+    (tmp_path / "file").touch()
+    for path in (tmp_path / "pipe", tmp_path / "file", tmp_path / "later"):
+        look_at_downlinks("attic", Receiver(downlinks=str(path)))
+    for path in (Path("/dev/tty"), tmp_path):
+        with pytest.raises(Trouble, match="is no file and no pipe"):
+            look_at_downlinks("attic", Receiver(downlinks=str(path)))
 
 
 def test_two_writers_of_a_receiver(tmp_path: Path) -> None:

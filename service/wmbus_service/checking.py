@@ -192,9 +192,8 @@ def look_at_downlinks(name: str, told: Receiver) -> None:
         raise Trouble(f"receivers.{name}", "it can't send, and commands to meters that it hears expire",
                       "name `downlinks`, the file or pipe from which its radio sends")
     path = Path(told.downlinks)
-    if path.exists() and not (stat.S_ISREG(path.stat().st_mode) or stat.S_ISFIFO(path.stat().st_mode)
-                              or stat.S_ISCHR(path.stat().st_mode)):
-        raise Trouble(f"receivers.{name}.downlinks", f"{path} is no file and no pipe")
+    if path.exists() and not (path.is_file() or path.is_fifo()):
+        raise Trouble(f"receivers.{name}.downlinks", f"{path} is no file and no pipe", "name one from which the radio's program reads")
     if not os.access(path if path.exists() else path.parent, os.W_OK):
         raise Trouble(f"receivers.{name}.downlinks", f"{path} can't be written by this user")
 
