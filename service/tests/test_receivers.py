@@ -255,8 +255,10 @@ def test_a_stick_that_the_unit_may_read(tmp_path: Path) -> None:
 
 
 def test_downlinks_that_the_unit_may_write(tmp_path: Path) -> None:
-    """`check` takes a file or a pipe, and no device: the service's unit has none (systemd.exec(5), PrivateDevices)."""
-    assert "PrivateDevices=yes" in (TOP / "service/systemd/wmbus.service").read_text()
+    """`check` takes a file or a pipe, and no device: the service's unit has none, and writes files in its folder alone (systemd.exec(5))."""
+    unit = (TOP / "service/systemd/wmbus.service").read_text().splitlines()
+    assert {"PrivateDevices=yes", "ProtectSystem=strict", "StateDirectory=wmbus"} <= {*unit}
+    assert not [line for line in unit if line.startswith("ReadWritePaths=")]
     os.mkfifo(tmp_path / "pipe")
     (tmp_path / "file").touch()
     for path in (tmp_path / "pipe", tmp_path / "file", tmp_path / "later"):
