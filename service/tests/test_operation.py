@@ -4,6 +4,7 @@ from __future__ import annotations
 import functools
 import itertools
 import os
+import pwd
 import resource
 import signal
 import socket
@@ -176,6 +177,27 @@ def test_root_acts_as_the_owner() -> None:
         assert "line 2, column `Key`" in (Path(place) / "log").read_text()
         assert {path.stat().st_uid for path in folder.rglob("*")} == {NOBODY}
         assert (folder / "wmbus.db").exists()
+
+
+@as_root
+@pytest.mark.parametrize("words", [("backup", "new"), ("restore", "copy"), ("export", "--state", "new")])
+def test_what_root_may_and_the_owner_may_not(words: tuple[str, ...]) -> None:
+    """Where root asks for a file that the service's user can't have, to whom the rest is left, it is told whose right is lacking."""
+    with tempfile.TemporaryDirectory() as place:
+        folder, config, own = Path(place) / "wmbus", Path(place) / "config.toml", Path(place) / "root"
+        Path(place).chmod(0o755)
+        own.mkdir(mode=0o700)
+        (own / "copy").touch(0o600)
+        config.write_text(f'folder = "{folder}"\n')
+        store.prepare_folder(folder)
+        with closing(store.open_store(folder / "wmbus.db", is_new=True)) as database:
+            store.set_setting(database, "own", "93" * 8)
+        for path in (*folder.iterdir(), folder):
+            os.chown(path, NOBODY, NOBODY)
+        child = Child(Path(place) / "log", lambda: print(main(["--config", str(config), *words[:-1], str(own / words[-1])])))
+        until(lambda: not child.is_running())
+        said = (Path(place) / "log").read_text()
+        assert "Permission denied" in said and f"as {pwd.getpwuid(NOBODY).pw_name}, to whom" in said
 
 
 def test_two_services(tmp_path: Path) -> None:

@@ -5,6 +5,7 @@ import argparse
 import getpass
 import logging
 import os
+import pwd
 import re
 import secrets
 import sqlite3
@@ -34,6 +35,7 @@ MOST_COUNT = 65_535
 def main(given: list[str]) -> int:
     """Does what is asked for; the exit status."""
     open_streams()
+    is_root = not os.geteuid()
     logging.basicConfig(level=logging.INFO, format="%(levelname)s %(message)s", stream=sys.stderr)
     try:
         asked = parsed(words(), given)
@@ -51,6 +53,8 @@ def main(given: list[str]) -> int:
         return TROUBLE
     except OSError as fault:
         said = str(fault)
+        if isinstance(fault, PermissionError) and is_root and os.geteuid():
+            said += f"; this was done as {pwd.getpwuid(os.geteuid()).pw_name}, to whom the service's folder belongs"
     except EOFError:
         said = "nothing was entered, and nothing was done"
     except KeyboardInterrupt:
