@@ -127,6 +127,16 @@ def test_from_nothing_to_readings(place: Place) -> None:
         assert database.execute("select id from command").fetchall() == [("a1",)]
 
 
+@pytest.mark.parametrize("address, own, key, words", [
+    ("40301210", OWN, KEY, "meter 40301210: it isn't 16 hexadecimal digits; `meter_name` makes it"),
+    (ADDRESS, "0131", KEY, "the collector's own address: it isn't 16 hexadecimal digits"),
+    (ADDRESS, OWN, KEY[1:], f"key of {ADDRESS}: it isn't 32 hexadecimal digits")])
+def test_digits_that_are_none(place: Place, address: str, own: str, key: str, words: str) -> None:
+    """What isn't as many digits as it has to be is named by itself, without a roster that nobody wrote, and no key is told."""
+    said = place.fault("add", address, "--own", own, given=key)
+    assert words in said and "roster" not in said and KEY[1:] not in said
+
+
 @pytest.mark.parametrize("address, own, key", [(f"{ADDRESS}\u200b", OWN, KEY), (ADDRESS, f"\ufeff{OWN}", KEY),
                                                (ADDRESS, OWN, f"{KEY}\u200b"), (f"{ADDRESS}\udcfc", OWN, KEY)])
 def test_signs_that_arent_seen(place: Place, address: str, own: str, key: str) -> None:
@@ -615,7 +625,7 @@ def test_output_that_takes_nothing(command: str) -> None:
 
 
 @pytest.mark.parametrize("closed, words, wanted", [
-    ("<&-", ["check"], f"right: program {STEPS}"), ("<&-", ["add", ADDRESS, "--own", OWN], "the program doesn't take the roster"),
+    ("<&-", ["check"], f"right: program {STEPS}"), ("<&-", ["add", ADDRESS, "--own", OWN], "it isn't 32 hexadecimal digits"),
     (">&-", ["status"], ""), ("<&- >&-", ["backup", "copy.db"], "")])
 def test_a_closed_stream(place: Place, closed: str, words: list[str], wanted: str) -> None:
     """Where a standard stream is closed, as a supervisor may leave it, what is given to a program doesn't stand in its place, and no command

@@ -223,15 +223,24 @@ def _status(asked: argparse.Namespace) -> int:
 
 def _add(asked: argparse.Namespace) -> int:
     config = _config(asked)
+    address = _digits(f"meter {asked.address}", asked.address.lower(), 16, "`meter_name` makes it of what stands on the label")
     with _opened(config, True) as database:
         own = _own(config, database, asked.own)
-        text = f"wmbus-roster 2\nown {own}\nmeter {asked.address.lower()} {asked.mode} {_key(asked.address)} - - 0 0\n"
+        key = _digits(f"key of {address}", _key(asked.address), 32, "copy it again")
+        text = f"wmbus-roster 2\nown {own}\nmeter {address} {asked.mode} {key} - - 0 0\n"
         added = meters.take_roster(config, database, text, f"meter {asked.address}", meters.name_of(asked.name))
         if not added:
             raise Trouble(f"meter {asked.address}", "it is known already",
                           "its key stays as it is; `wmbus-service rekey` gives a second one")
-    print(f"meter {asked.address.lower()} was added")
+    print(f"meter {address} was added")
     return DONE
+
+
+def _digits(what: str, text: str, count: int, remedy: str) -> str:
+    """So many hexadecimal digits. What has other signs, which may not be seen, is named by who judges rosters."""
+    if text.isascii() and not re.fullmatch(f"[0-9a-f]{{{count}}}", text):
+        raise Trouble(what, f"it isn't {count} hexadecimal digits", remedy)
+    return text
 
 
 def _own(config: Config, database: sqlite3.Connection, asked: str | None) -> str:
@@ -239,7 +248,7 @@ def _own(config: Config, database: sqlite3.Connection, asked: str | None) -> str
     if not own:
         raise Trouble(config.database, "the collector's own address isn't known",
                       "name it with --own, sixteen hexadecimal digits that no meter has")
-    return own
+    return _digits("the collector's own address", own, 16, "name one that no meter has")
 
 
 def _secret(what: str) -> str:
