@@ -276,6 +276,21 @@ def test_an_interruption_at_a_terminal(house: House, tmp_path: Path) -> None:
         assert database.execute("select count(*) from reading").fetchone() == (1,)
 
 
+@pytest.mark.parametrize("number, is_ignored", [(signal.SIGTERM, False), (signal.SIGINT, False), (signal.SIGHUP, False), (signal.SIGHUP, True)])
+def test_what_ends_a_process(tmp_path: Path, number: signal.Signals, is_ignored: bool) -> None:
+    """Also that its terminal is closed (signal(7), SIGHUP), so that what it made goes with it, as the demo's folder; but where nohup has it
+    ignore that."""
+    def run() -> None:
+        signal.signal(number, signal.SIG_IGN if is_ignored else signal.SIG_DFL)
+        ending = Ending()
+        ending.heed_signals()
+        signal.raise_signal(number)
+        assert ending.is_set() is not is_ignored
+    child = Child(tmp_path / "log", run)
+    until(lambda: not child.is_running())
+    assert child.status == 0, (tmp_path / "log").read_text()
+
+
 def test_an_end_at_any_moment(tmp_path: Path) -> None:
     """A signal ends who waits for the end, at whichever step of the wait it comes."""
     def end_at(step: int) -> None:

@@ -13,7 +13,6 @@ import subprocess
 import time
 from contextlib import suppress
 from pathlib import Path
-from types import FrameType
 
 from .config import Config, Receiver, words_of
 from .ending import Ending
@@ -81,15 +80,8 @@ class Receiving:
 
     def run(self) -> None:
         """Feeds the spool until it gets SIGTERM or SIGINT, or the terminal is closed at which somebody tries it."""
-        def end(_number: int, _frame: FrameType | None) -> None:
-            # (who waits for the feed's end sees it then, and cleans up)
-            self.ending.set()
-            self._signal(signal.SIGTERM)
-
-        for number in (signal.SIGTERM, signal.SIGINT, signal.SIGHUP):
-            # (what nohup has a program ignore it ignores)
-            if signal.getsignal(number) != signal.SIG_IGN:
-                signal.signal(number, end)
+        # (who waits for the feed's end sees it then, and cleans up)
+        self.ending.heed_signals(lambda: self._signal(signal.SIGTERM))
         prepare_folder(self.config.folder)
         was_full = False
         while not self.ending.is_set():
