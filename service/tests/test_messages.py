@@ -515,6 +515,22 @@ def test_metrics(house: House, mosquitto: Mosquitto) -> None:
     served.end()
 
 
+def test_silent_connections_to_the_metrics(house: House, monkeypatch: pytest.MonkeyPatch) -> None:
+    """Who connects and says nothing, as anybody on the machine may, takes neither a thread nor an open file each of the service, which
+    sessions need; the metrics are had all the same."""
+    from wmbus_service import metrics
+    monkeypatch.setattr(metrics.Asked, "timeout", 0.2)
+    port = free_port()
+    metrics.serve(house.config, Metrics(port=port), service.Service(house.config, house.database))
+    threads = threading.active_count()
+    held = [socket.create_connection(("127.0.0.1", port)) for _ in range(4)]
+    with closing(urllib.request.urlopen(f"http://127.0.0.1:{port}/metrics", timeout=PATIENCE)) as answer:
+        assert b"wmbus_trouble 0" in answer.read()
+    assert threading.active_count() <= threads
+    for opened in held:
+        opened.close()
+
+
 def test_metrics_port_that_is_taken(house: House) -> None:
     """Where the metrics' port is another's, or none, it is said which one, and what to do."""
     from wmbus_service.metrics import serve
