@@ -175,6 +175,14 @@ def test_meters_that_were_heard(place: Place) -> None:
     assert place.said("import", str(path), "--heard") == "0 new meters; 1 weren't heard yet, and are left\n"
 
 
+def test_known_meters_with_another_key(place: Place) -> None:
+    """They stay as they are, which is said: nobody who had the right key at last would wait for what is read by it."""
+    place.said("import", str(listed(place, f"address;key\n{HEAT};{KEY}\n")), "--own", OWN)
+    path = listed(place, f"address;key\n{HEAT};{'ff' * 16}\n{GAS};{KEY}\n")
+    assert place.said("import", str(path)) == "1 new meters; 1 are known with another key, and keep theirs\n"
+    assert known(place)[HEAT].split(" ")[3] == KEY
+
+
 def test_more_meters_than_a_roster_has(place: Place, monkeypatch: pytest.MonkeyPatch) -> None:
     """A list of any length is judged in pieces, and taken whole or not at all."""
     monkeypatch.setattr(meters, "PIECE", 3)

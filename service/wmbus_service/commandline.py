@@ -272,8 +272,9 @@ def _import(asked: argparse.Namespace) -> int:
     rows = importing.read_list(asked.list, content, lambda: _secret(f"password of {asked.list}"))
     with _opened(config, True) as database:
         wish = importing.Wish(_own(config, database, asked.own), asked.mode, asked.heard)
-        added, left = importing.take_list(config, database, asked.list, rows, wish)
-    print(f"{added} new meters" + (f"; {left} weren't heard yet, and are left" if left else ""))
+        added, others, left = importing.take_list(config, database, asked.list, rows, wish)
+    print(f"{added} new meters" + (f"; {others} are known with another key, and keep theirs" if others else "")
+          + (f"; {left} weren't heard yet, and are left" if left else ""))
     return DONE
 
 

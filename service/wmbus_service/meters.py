@@ -13,7 +13,7 @@ from .trouble import Trouble
 
 log = logging.getLogger("wmbus")
 
-OTHER_PLACE, DOWN_PLACE = 4, 6
+KEY_PLACE, OTHER_PLACE, DOWN_PLACE = 3, 4, 6
 MOST_NAME = 80
 # a roster that the program judges has so many meters at most
 PIECE = 4096
