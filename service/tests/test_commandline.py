@@ -9,14 +9,15 @@ import pty
 import signal
 import sqlite3
 import subprocess
+import sys
 import time
 from collections.abc import Iterator
-from contextlib import redirect_stderr, redirect_stdout, suppress
+from contextlib import closing, redirect_stderr, redirect_stdout, suppress
 from dataclasses import dataclass
 from pathlib import Path
 
 import pytest
-from wmbus_service import backup, config, exporting, service
+from wmbus_service import backup, config, exporting, service, store
 from wmbus_service.backup import raise_counters
 from wmbus_service.commandline import main
 from wmbus_service.config import Config, Programs, has_steps, read_config, unproved_words
@@ -100,6 +101,7 @@ def test_from_nothing_to_readings(place: Place) -> None:
     assert "no meter is known" in place.fault("check")
     assert "own address isn't known" in place.fault("add", ADDRESS, given=KEY)
     assert "key" in place.fault("add", ADDRESS, "--own", OWN, given="0011")
+    assert "one that no meter has" in place.fault("add", ADDRESS, "--own", ADDRESS.upper(), given=KEY)
     assert place.said("add", ADDRESS, "--own", OWN, "--name", "cellar", given=f"{KEY}\n") == f"meter {ADDRESS} was added\n"
     assert "known already" in place.fault("add", ADDRESS, given=KEY)
     assert "can't send" in place.fault("check")
@@ -118,6 +120,21 @@ def test_from_nothing_to_readings(place: Place) -> None:
     assert "no meter" in place.fault("command", "0" * 16, "01")
     assert place.said("command", "--cancel", "a1") == "command a1 is cancelled\n"
     assert "no command" in place.fault("command", "--cancel", "a2")
+    # (as a script has it whose variable is empty: it asks for no command of its own id, and for none at all)
+    assert "its id isn't" in place.fault("command", ADDRESS, "01", "--id", "")
+    assert "no command" in place.fault("command", ADDRESS, "01", "--cancel", "")
+    with sqlite3.connect(place.folder / "wmbus/wmbus.db") as database:
+        assert database.execute("select id from command").fetchall() == [("a1",)]
+
+
+@pytest.mark.parametrize("address, own, key, words", [
+    ("40301210", OWN, KEY, "meter 40301210: it isn't 16 hexadecimal digits; `meter_name` makes it"),
+    (ADDRESS, "0131", KEY, "the collector's own address: it isn't 16 hexadecimal digits"),
+    (ADDRESS, OWN, KEY[1:], f"key of {ADDRESS}: it isn't 32 hexadecimal digits")])
+def test_digits_that_are_none(place: Place, address: str, own: str, key: str, words: str) -> None:
+    """What isn't as many digits as it has to be is named by itself, without a roster that nobody wrote, and no key is told."""
+    said = place.fault("add", address, "--own", own, given=key)
+    assert words in said and "roster" not in said and KEY[1:] not in said
 
 
 @pytest.mark.parametrize("address, own, key", [(f"{ADDRESS}\u200b", OWN, KEY), (ADDRESS, f"\ufeff{OWN}", KEY),
@@ -132,6 +149,35 @@ def test_a_name_in_another_encoding(place: Place) -> None:
     """A meter is added also where its name has signs that can't be shown, as a terminal of another encoding gives them: without these."""
     place.said("add", ADDRESS, "--own", OWN, "--name", "K\udcfcche\n1", given=KEY)
     assert json.loads(place.said("status", "--json"))["meters"][0]["name"] == "Kche1"
+
+
+def test_a_meter_comes_with_its_name(place: Place, monkeypatch: pytest.MonkeyPatch) -> None:
+    """In one commit: a plug that is pulled behind it leaves none that is known without the name that was given."""
+    (place.folder / "none").write_text("Key;ID\n")
+    place.said("import", str(place.folder / "none"), "--own", OWN)
+    commit = store.commit
+
+    def pulled(database: sqlite3.Connection) -> None:
+        commit(database)
+        raise OSError("the plug was pulled")
+    with monkeypatch.context() as within:
+        within.setattr(store, "commit", pulled)
+        place.fault("add", ADDRESS, "--name", "cellar", given=KEY)
+    assert [it["name"] for it in json.loads(place.said("status", "--json"))["meters"]] == ["cellar"]
+
+
+@pytest.mark.parametrize("words, wanted", [(["status"], "K\\xfcche \\u0141"), (["status", "--json"], '"K\\u00fcche \\u0141"'),
+                                           (["export"], "K\\xfcche \\u0141"), (["export", "--json"], '"K\\u00fcche \\u0141"')])
+def test_a_terminal_of_another_encoding(place: Place, words: list[str], wanted: str) -> None:
+    """What a terminal can't show is told by its number, which JSON has in its own way (RFC 8259, 7), and ends no command."""
+    place.said("add", ADDRESS, "--own", OWN, "--name", "K\u00fcche \u0141", given=KEY)
+    with sqlite3.connect(place.folder / "wmbus/wmbus.db") as database:
+        database.execute("insert into reading values (1, 1, ?, 1, 100, null, null, null, 0, 100)", (ADDRESS,))
+        database.execute("insert into record values (1, 0, 'volume', 'm3', -3, '5', 'instantaneous', 0, 0, 0, '', '')")
+    environment = os.environ | {"PYTHONIOENCODING": "ascii", "PYTHONPATH": str(TOP / "service")}
+    done = run([PYTHON, "-m", "wmbus_service", "--config", place.config, *words], check=False, env=environment)
+    assert done.returncode == 0, done.stderr
+    assert wanted in done.stdout
 
 
 def test_strangers_that_are_known_now(place: Place) -> None:
@@ -173,6 +219,49 @@ def test_export_of_a_meter_in_large_letters(place: Place) -> None:
         database.execute("insert into record values (1, 0, 'volume', 'm3', -3, '5', 'instantaneous', 0, 0, 0, '', '')")
     told = [json.loads(line) for line in place.said("export", "--json", "--meter", address.upper()).splitlines()]
     assert [(it["address"], it["value"]) for it in told] == [(address, "0.005")]
+    # (no file that is empty by a slip of the hand is taken for a silent meter's)
+    assert f"there is no meter {OWN}" in place.fault("export", "--meter", OWN)
+    for words in (("--lines", "--meter", ADDRESS), ("--state", "--since", "5")):
+        file = place.folder / "file"
+        assert "values alone" in place.fault("export", words[0], str(file), *words[1:]) and not file.exists()
+
+
+@pytest.mark.parametrize("piece", [200, 1, 2])
+def test_an_export_that_nobody_reads_on(place: Place, monkeypatch: pytest.MonkeyPatch, piece: int) -> None:
+    """An export that stands still, as in a pager, holds nothing of the database, whose log would grow until the disk is full (SQLite,
+    "Write-Ahead Logging", 6): read on, it has each value once and in order."""
+    monkeypatch.setattr(exporting, "PIECE", piece, raising=False)
+    place.said("add", ADDRESS, "--own", OWN, given=KEY)
+    wanted = [(number, place_of) for number in range(1, 6) for place_of in range(number % 3)]
+    with closing(open_store(place.folder / "wmbus/wmbus.db")) as database, closing(open_store(place.folder / "wmbus/wmbus.db")) as other:
+        for number in range(1, 6):
+            other.execute("insert into reading values (?, ?, ?, ?, 100, null, null, null, 0, 100)", (number, number, ADDRESS, number))
+        for number, place_of in wanted:
+            other.execute("insert into record values (?, ?, 'volume', 'm3', 0, ?, 'instantaneous', 0, 0, 0, '', '')",
+                          (number, place_of, str(10 * number + place_of)))
+        rows = exporting.as_csv(database, None, 0)
+        told = [next(rows) for _ in range(3)]
+        other.execute("insert into total values ('more', 1)")
+        _, logged, done = other.execute("pragma wal_checkpoint(passive)").fetchone()
+        assert done == logged
+        found = [tuple(map(int, (row.split(",")[3], row.split(",")[5]))) for row in (told + list(rows))[1:]]
+    assert found == [(number, 10 * number + place_of) for number, place_of in wanted]
+
+
+def test_status_of_a_receiver_that_cant_send(place: Place) -> None:
+    """It is named by its name (docs/SERVICE.md, "Receivers")."""
+    place.said("add", ADDRESS, "--own", OWN, given=KEY)
+    with sqlite3.connect(place.folder / "wmbus/wmbus.db") as database:
+        database.execute("insert into outbox (receiver, address, down, frame, command, made, missed)"
+                         " values ('roof', ?, 4, '', 1, 100, 'it can''t send')", (ADDRESS,))
+    assert f"downlink 4 for {ADDRESS} wasn't sent by receiver roof: it can't send" in place.said("status")
+
+
+def test_check_of_a_format(place: Place) -> None:
+    """A format that line_feed doesn't know is named, with its receiver."""
+    assert "right: receiver attic" in place.run("check").output
+    place.config.write_text(place.config.read_text().replace('format = "hex"', 'format = "rtl433"'))
+    assert "receivers.attic.format: line_feed doesn't take the format rtl433" in place.fault("check")
 
 
 def test_status_of_what_flowed_backward(place: Place) -> None:
@@ -207,6 +296,19 @@ def test_copy(place: Place) -> None:
     copy.write_bytes(copy.read_bytes()[:5000])
     assert "isn't whole" in place.fault("restore", str(copy))
     assert f"meter {ADDRESS}" in place.said("status")
+
+
+def test_commands_that_a_restore_cancels_are_told(place: Place) -> None:
+    """Each change of a command's state is a message (docs/SERVICE.md, "MQTT and Home Assistant"), also that it is cancelled by a restore."""
+    place.config.write_text(place.config.read_text() + "[mqtt]\n")
+    place.said("add", ADDRESS, "--own", OWN, given=KEY)
+    place.said("command", ADDRESS, "01", "--id", "before")
+    place.said("backup", str(place.folder / "copy.db"))
+    place.said("restore", str(place.folder / "copy.db"))
+    with sqlite3.connect(place.folder / "wmbus/wmbus.db") as database:
+        told = database.execute("select topic, payload from publication").fetchall()
+    assert [(topic, json.loads(text)["id"], json.loads(text)["state"]) for topic, text in told] == [
+        (f"wmbus/commands/{ADDRESS}", "before", "cancelled")]
 
 
 @pytest.mark.parametrize("name", ["copy #1.db", "copy?.db", "copy%31.db"])
@@ -283,14 +385,30 @@ def test_copy_of_many_meters(place: Place) -> None:
     assert "doesn't take" in place.fault("restore", str(copy))
 
 
+@pytest.mark.parametrize("written", ["", "end\\n", "wmbus-state 1\\nend\\n", f"wmbus-state 1\\nown {OWN}\\nreading 1 2 -\\nend\\n",
+                                     f"wmbus-state 1\\nown {OWN}\\nmeter {ADDRESS} 7 {KEY} - - 12 0\\n"])
+def test_a_program_that_raises_no_counters(place: Place, written: str) -> None:
+    """Where what `state_raise` writes isn't the state of all meters that is said, and the database stays."""
+    program_file = place.folder / "state_raise"
+    program_file.write_text(f"#!/bin/sh\nprintf '{written}' >\"$3\"\n")
+    program_file.chmod(0o755)
+    place.said("add", ADDRESS, "--own", OWN, given=KEY)
+    place.said("backup", str(place.folder / "copy.db"))
+    place.config.write_text(place.config.read_text().replace("[programs]\n", f'[programs]\nstate_raise = "{program_file}"\n'))
+    assert f"{program_file}: what it wrote isn't" in place.fault("restore", str(place.folder / "copy.db"))
+    assert f"meter {ADDRESS}" in place.said("status")
+
+
 def test_counters_that_would_come_again(place: Place) -> None:
-    """A margin below nothing is refused, and the database stays as it was."""
+    """A margin below nothing is refused, and so is one above all counters, as `state_raise` has it (docs/FORMATS.md, "The state"): no command
+    would reach a meter any more. The database stays as it was."""
     place.said("add", ADDRESS, "--own", OWN, given=KEY)
     copy = place.folder / "copy.db"
     place.said("backup", str(copy))
     place.said("restore", str(copy), "--margin", "50")
     place.said("backup", str(place.folder / "later.db"))
-    assert "margin" in place.fault("restore", str(place.folder / "later.db"), "--margin", "-20")
+    for margin in ("-20", str((1 << 32) - 50)):
+        assert "margin" in place.fault("restore", str(place.folder / "later.db"), "--margin", margin)
     place.said("export", "--state", str(place.folder / "state"))
     assert f"meter {ADDRESS} 7 {KEY} - - 50 0\n" in (place.folder / "state").read_text()
 
@@ -359,6 +477,7 @@ def test_configuration(place: Place) -> None:
         folder + "speed = 1\n": "speed is no setting",
         folder + "interval = 0\n": "interval isn't a number above 0",
         folder + "interval = true\n": "interval isn't a number above 0",
+        folder + "spool_bytes = 0\n": "spool_bytes is 0",
         folder + "[receivers.Attic]\n": "receivers.Attic: a name has",
         folder + "[receivers.attic]\nprofile = 1\n": "receivers.attic.profile isn't a text",
         folder + "[mqtt]\nport = -1\n": "mqtt.port isn't a number",
@@ -366,6 +485,9 @@ def test_configuration(place: Place) -> None:
         folder + '[programs]\nsteps = "/opt/tim\'s/wmbus steps"\n': "programs.steps isn't a command",
         folder + '[programs]\nline_merge = "line\'merge"\n': "programs.line_merge isn't a command",
         folder + '[programs]\nline_feed = ""\n': "programs.line_feed is empty",
+        folder + '[programs]\nline_merge = " "\n': "programs.line_merge is empty",
+        folder + 'roster = "a\\u0000b"\n': "roster has a NUL",
+        'folder = "/a\\u0000b"\n': "folder has a NUL",
     }.items():
         place.config.write_text(text)
         assert said in place.fault("status")
@@ -380,12 +502,24 @@ def test_configuration(place: Place) -> None:
 
 @pytest.mark.parametrize("words", [("export", "--since", "9" * 19), ("export", "--since", "9" * 5000), ("export", "--since", "today"),
                                    ("export", "--meter", "\udcfc"), ("command", "--cancel", "\udcfc"), ("command", "\udcfc", "01"),
-                                   ("rekey", "\udcfc")])
+                                   ("rekey", "\udcfc"), ("demo", "--steps", "it's"), ("demo", "--steps", "")])
 def test_words_that_cant_be_asked_for(place: Place, words: tuple[str, ...]) -> None:
-    """A moment beyond all that a database has, and what isn't in UTF-8, are faulty words."""
+    """A moment beyond all that a database has, what isn't in UTF-8, and what is no command are faulty words."""
     place.said("add", ADDRESS, "--own", OWN, given=KEY)
     done = place.run(*words, given=KEY)
     assert done.status == 2 and "usage: wmbus-service" in done.errors
+
+
+def test_a_package_that_isnt_there(place: Place, monkeypatch: pytest.MonkeyPatch) -> None:
+    """Where Debian's package isn't installed that a command needs, that is said, and `check` looks at all else."""
+    for name in ("broker", "kem"):
+        monkeypatch.setitem(sys.modules, f"wmbus_service.{name}", None)  # type: ignore[misc]
+        monkeypatch.delattr(sys.modules["wmbus_service"], name, raising=False)
+    place.config.write_text(place.config.read_text() + "[mqtt]\n")
+    said = place.fault("check")
+    assert "wrong: MQTT broker 127.0.0.1:1883: " in said and "receivers.attic: it can't send" in said
+    (place.folder / "keys.kem").write_text("<MetersInOrder/>")
+    assert "names the packages of Debian" in place.fault("import", str(place.folder / "keys.kem"), "--own", OWN)
 
 
 def test_check_of_a_database_that_isnt_whole(place: Place) -> None:
@@ -402,6 +536,9 @@ def test_check_of_a_database_that_isnt_whole(place: Place) -> None:
             file.write(b"\xff" * 200)
     said = place.fault("check")
     assert "wrong: meters: the database: " in said and "last backup" in said and "receivers.attic: it can't send" in said
+    # (a copy of it is none, and it is the database that isn't whole)
+    assert f"{path}: the database isn't whole" in place.fault("backup", str(place.folder / "copy.db"))
+    assert not (place.folder / "copy.db").exists()
 
 
 def test_check_of_programs(place: Place) -> None:
@@ -420,6 +557,9 @@ def test_check_of_a_large_roster(place: Place) -> None:
     roster.chmod(0o600)
     place.config.write_text(f'roster = "{roster}"\n' + place.config.read_text())
     assert f"right: roster {roster}" in place.run("check").output
+    # (as a database has it whose collector is another one, over which the service doesn't start)
+    place.said("add", ADDRESS, "--own", OWN[:-1] + "2", given=KEY)
+    assert f"{roster}: the collector's own address is {OWN}" in place.fault("check")
     roster.write_text(roster.read_text() + "meter 93150000000201\n")
     assert "doesn't take the roster" in place.fault("check")
 
@@ -482,6 +622,20 @@ def test_output_that_takes_nothing(command: str) -> None:
             done = subprocess.run([PYTHON, f"{TOP}/service/{command}", "--help"], check=False, stdout=opened, stderr=subprocess.PIPE, text=True,
                                   timeout=PATIENCE)
         assert done.returncode == 1 and told in done.stderr and "Traceback" not in done.stderr and bool(done.stderr) == bool(told)
+
+
+@pytest.mark.parametrize("closed, words, wanted", [
+    ("<&-", ["check"], f"right: program {STEPS}"), ("<&-", ["add", ADDRESS, "--own", OWN], "it isn't 32 hexadecimal digits"),
+    (">&-", ["status"], ""), ("<&- >&-", ["backup", "copy.db"], "")])
+def test_a_closed_stream(place: Place, closed: str, words: list[str], wanted: str) -> None:
+    """Where a standard stream is closed, as a supervisor may leave it, what is given to a program doesn't stand in its place, and no command
+    ends with a trace."""
+    if not wanted:
+        place.said("add", ADDRESS, "--own", OWN, given=KEY)
+    started: list[str | Path] = ["sh", "-c", f'exec "$@" {closed}', "sh", PYTHON, "-m", "wmbus_service", "--config", place.config, *words]
+    done = run(started, check=False, env=os.environ | {"PYTHONPATH": str(TOP / "service")}, cwd=place.folder)
+    assert wanted in done.stdout + done.stderr and "Traceback" not in done.stderr
+    assert done.returncode == int(bool(wanted))
 
 
 def test_demo() -> None:

@@ -11,6 +11,8 @@ from pathlib import Path
 import pytest
 from wmbus_service.config import Programs
 from wmbus_service.demo import COMMANDS, demo
+from wmbus_service.demo import run as run_demo
+from wmbus_service.ending import Ending
 from wmbus_service.made_building import GAS, HEAT, POWER, SILENT, WRONG_KEY
 
 from .kill import PYTHON, TOP
@@ -47,6 +49,16 @@ def test_what_is_read_is_what_was_made(monkeypatch: pytest.MonkeyPatch) -> None:
         assert made.building.end - heard > 9 * 86_400
         folder = made.config.folder
     assert not folder.exists() and "isn't proved" not in told[0]
+
+
+@pytest.mark.parametrize("port", [None, 0])
+def test_an_end_before_all_is_heard(monkeypatch: pytest.MonkeyPatch, port: int | None) -> None:
+    """Ctrl-C while the days are heard ends it: neither what was read of a part of them is said, nor the address of a page that ends."""
+    use_stand_in(monkeypatch)
+    monkeypatch.setattr(Ending, "heed_signals", Ending.set)
+    told: list[str] = []
+    run_demo(Programs(steps=STEPS), DAYS, port, told.append)
+    assert len(told) == 1 and "isn't proved" in told[0]
 
 
 def test_its_page(tmp_path: Path) -> None:

@@ -175,6 +175,14 @@ def test_meters_that_were_heard(place: Place) -> None:
     assert place.said("import", str(path), "--heard") == "0 new meters; 1 weren't heard yet, and are left\n"
 
 
+def test_known_meters_with_another_key(place: Place) -> None:
+    """They stay as they are, which is said: nobody who had the right key at last would wait for what is read by it."""
+    place.said("import", str(listed(place, f"address;key\n{HEAT};{KEY}\n")), "--own", OWN)
+    path = listed(place, f"address;key\n{HEAT};{'ff' * 16}\n{GAS};{KEY}\n")
+    assert place.said("import", str(path)) == "1 new meters; 1 are known with another key, and keep theirs\n"
+    assert known(place)[HEAT].split(" ")[3] == KEY
+
+
 def test_more_meters_than_a_roster_has(place: Place, monkeypatch: pytest.MonkeyPatch) -> None:
     """A list of any length is judged in pieces, and taken whole or not at all."""
     monkeypatch.setattr(meters, "PIECE", 3)
@@ -190,6 +198,23 @@ def test_more_meters_than_a_roster_has(place: Place, monkeypatch: pytest.MonkeyP
     assert not known(place)
     rows = "".join(f"{address};{KEY}\n" for address in addresses)
     assert place.said("import", str(listed(place, f"address;key\n{rows}"))) == "7 new meters\n"
+
+
+@pytest.mark.parametrize("above", ["", "# of bin/sessions\n\n"])
+def test_a_state_as_a_roster(place: Place, above: str) -> None:
+    """The state of `bin/sessions`, in which more stands than in a roster (docs/FORMATS.md, "The state"), is named where a roster has to be,
+    and none of its lines is taken for a meter's."""
+    state = place.folder / "state"
+    state.write_text(f"{above}wmbus-state 1\nown {OWN}\nmeter {HEAT} 7 {KEY} - 24 4 7\nreading 1700000123 24 2f2f0c1427048502\n"
+                     "command 5 0 02\nend\n")
+    state.chmod(0o600)
+    heard(place)
+    place.config.write_text(f'roster = "{state}"\n' + place.config.read_text())
+    assert "it is a state, and no roster" in place.fault("check")
+    config = read_config(place.config)
+    with closing(open_store(config.database)) as database, pytest.raises(Trouble, match="it is a state"):
+        meters.take_roster(config, database, meters.read_roster(state), state)
+    assert not known(place)
 
 
 def test_a_list_that_root_alone_reads(place: Place, monkeypatch: pytest.MonkeyPatch) -> None:

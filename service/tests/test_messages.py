@@ -15,6 +15,7 @@ from collections.abc import Iterator
 from contextlib import closing, suppress
 from dataclasses import replace
 from pathlib import Path
+from typing import Any
 
 import pytest
 from wmbus_service import broker, service, session, status, steps, store
@@ -203,6 +204,39 @@ def test_a_connection_that_is_reset() -> None:
             broker.publish(client, [(number, "wmbus/meter/a", "{}", 1) for number in range(3)])
 
 
+def test_a_connection_that_is_reset_at_once(house: House, monkeypatch: pytest.MonkeyPatch, caplog: pytest.LogCaptureFixture) -> None:
+    """Where what listens at the broker's port resets a connection before a word was said, as what stands in front of a broker does that is
+    down, the next one follows."""
+    came: list[int] = []
+    turn, connect = threading.Barrier(2, timeout=PATIENCE), socket.create_connection
+    with socket.create_server(("127.0.0.1", 0)) as server:
+        def serve() -> None:
+            with suppress(OSError, threading.BrokenBarrierError):
+                while True:
+                    opened, _ = server.accept()
+                    turn.wait()
+                    opened.setsockopt(socket.SOL_SOCKET, socket.SO_LINGER, struct.pack("ii", 1, 0))
+                    opened.close()
+                    came.append(1)
+                    turn.wait()
+
+        def connected(*words: Any, **more: Any) -> socket.socket:
+            opened = connect(*words, **more)
+            # (it is there, and then it is reset)
+            turn.wait()
+            turn.wait()
+            return opened
+        monkeypatch.setattr(socket, "create_connection", connected)
+        threading.Thread(target=serve, daemon=True).start()
+        ending = Ending()
+        connecting = broker.Broker(house.config, Mqtt(port=server.getsockname()[1]), ending)
+        connecting.start()
+        until(lambda: not connecting.is_alive() or len(came) > 1)
+        assert connecting.is_alive() and "it is tried again" in caplog.text
+        ending.set()
+        connecting.join(PATIENCE)
+
+
 def test_a_slow_way_to_the_broker(monkeypatch: pytest.MonkeyPatch) -> None:
     """Messages are given up where no answer comes for long, and not where each of many takes its time: else all of them would go out
     again and again."""
@@ -325,6 +359,8 @@ def test_discovery() -> None:
                             "12345678901234567890123456789.012345"),
                            ({"quantity": "volume", "unit": "m3", "value": "raw", "exponent": -2}, None),
                            ({"quantity": "date", "unit": "-", "value": "2007-02-28", "exponent": 0}, '"2007-02-28"'),
+                           # (docs/FORMATS.md: how many days the month has isn't asked; Home Assistant takes a day of ISO 8601 alone)
+                           ({"quantity": "date", "unit": "-", "value": "2007-02-31", "exponent": 0}, None),
                            # (docs/FORMATS.md: a moment is followed by ! where the meter calls it invalid, and then by + in summer time)
                            ({"quantity": "datetime", "unit": "-", "value": "2026-03-29T01:59", "exponent": 0}, '"2026-03-29T01:59"'),
                            ({"quantity": "datetime", "unit": "-", "value": "2026-03-29T03:00+", "exponent": 0}, '"2026-03-29T03:00+"'),
@@ -352,12 +388,16 @@ def test_sensors_members(house: House, mosquitto: Mosquitto) -> None:
     served.end()
 
 
-def test_sensors_under_another_topic(house: House, tmp_path: Path) -> None:
-    """Once the topics are others in the configuration sensors are told of under these, and otherwise once over all starts."""
+def test_sensors_at_another_broker_or_topic(house: House, tmp_path: Path) -> None:
+    """Once the broker is another one in the configuration, which knows no sensor yet, or the topics are, sensors are told of there, and
+    otherwise once over all starts."""
     house.database.close()
     seen = []
-    for number, (topic, discovery) in enumerate((("wmbus", "homeassistant"),) * 2 + (("house", "homeassistant"), ("house", "ha")), 1):
-        config = replace(house.config, mqtt=Mqtt(port=free_port(), topic=topic, discovery=discovery))
+    first, second = free_port(), free_port()
+    brokers = (Mqtt(port=first), Mqtt(port=first), Mqtt(port=first, topic="house"), Mqtt(port=first, topic="house", discovery="ha"),
+               Mqtt(port=second, topic="house", discovery="ha"), Mqtt("127.0.0.2", second, topic="house", discovery="ha"))
+    for number, told in enumerate(brokers, 1):
+        config = replace(house.config, mqtt=told)
         house.spool(house.whole(house.meters[0]))
         child = Child(tmp_path / f"log {number}", functools.partial(service.run, config))
         with closing(store.open_store(house.config.database)) as database:
@@ -366,7 +406,7 @@ def test_sensors_under_another_topic(house: House, tmp_path: Path) -> None:
             seen += [(name.split("/")[0], json.loads(text)["state_topic"].split("/")[0])
                      for name, text in database.execute("select topic, payload from publication where topic like '%/config'").fetchall()]
             database.execute("delete from publication")
-    assert seen == [("homeassistant", "wmbus"), ("homeassistant", "house"), ("ha", "house")]
+    assert seen == [("homeassistant", "wmbus"), ("homeassistant", "house"), *[("ha", "house")] * 3]
 
 
 def test_password_and_tls(tmp_path: Path, house: House) -> None:
@@ -379,7 +419,8 @@ def test_password_and_tls(tmp_path: Path, house: House) -> None:
     run(["mosquitto_passwd", "-b", "-c", files / "users", "house", "secret"])
     mosquitto = Mosquitto(tmp_path / "broker",
                           f"certfile {certificate}\nkeyfile {key}\nallow_anonymous false\npassword_file {files}/users\n")
-    (files / "password").write_text("secret\n")
+    # (as an editor on Windows writes it)
+    (files / "password").write_bytes(b"\xef\xbb\xbfsecret\r\n")
     told = Mqtt(port=mosquitto.port, user="house", password_file=str(files / "password"), tls=True,
                 authority=str(certificate))
     broker.try_connection(told)
@@ -408,6 +449,22 @@ def test_password_in_another_encoding(tmp_path: Path, house: House) -> None:
     connecting.join(PATIENCE)
 
 
+def test_a_password_without_a_user(mosquitto: Mosquitto) -> None:
+    """It isn't sent (MQTT 3.1.1, 3.1.2.9), and `check` says so, also where the broker takes everybody."""
+    with pytest.raises(Trouble, match="mqtt.password_file: "):
+        broker.try_connection(Mqtt(port=mosquitto.port, password_file="/etc/wmbus/mqtt.password"))
+
+
+@pytest.mark.parametrize("text", [None, "no certificate"])
+def test_an_authority_that_is_none(tmp_path: Path, text: str | None) -> None:
+    """A CA's file that isn't there, or has no certificate, is named."""
+    path = tmp_path / "ca.pem"
+    if text:
+        path.write_text(text)
+    with pytest.raises(Trouble, match=f"{path}: the authority's certificate"):
+        broker.try_connection(Mqtt(port=free_port(), tls=True, authority=str(path)))
+
+
 @pytest.mark.parametrize("told", [Mqtt(port=0), Mqtt(port=70_000), Mqtt(host="")])
 def test_place_where_no_broker_can_be(house: House, told: Mqtt, caplog: pytest.LogCaptureFixture) -> None:
     """A place that can be none is named by `check` and in the log."""
@@ -422,10 +479,12 @@ def test_place_where_no_broker_can_be(house: House, told: Mqtt, caplog: pytest.L
     connecting.join(PATIENCE)
 
 
-@pytest.mark.parametrize("name, text", [("topic", "wmbus/#"), ("topic", "+/wmbus"), ("discovery", "homeassistant/#"), ("client", "")])
-def test_names_under_which_nothing_goes(house: House, mosquitto: Mosquitto, name: str, text: str, caplog: pytest.LogCaptureFixture) -> None:
-    """A topic with signs of a filter (MQTT 3.1.1, 3.3.2.1) and an empty client name (3.1.3.1) are named by `check` and in the log, and
-    what connects tries on."""
+@pytest.mark.parametrize("name, text", [("topic", "wmbus/#"), ("topic", "+/wmbus"), ("discovery", "homeassistant/#"), ("client", ""),
+                                        ("authority", "/etc/ssl/cert.pem")])
+def test_settings_with_which_nothing_goes(house: House, mosquitto: Mosquitto, name: str, text: str,
+                                          caplog: pytest.LogCaptureFixture) -> None:
+    """A topic with signs of a filter (MQTT 3.1.1, 3.3.2.1), an empty client name (3.1.3.1), and an authority without TLS, where all would go
+    in the clear, are named by `check` and in the log, and what connects tries on."""
     told = replace(Mqtt(port=mosquitto.port), **{name: text})
     with pytest.raises(Trouble, match=f"mqtt.{name}: "):
         broker.try_connection(told)
@@ -456,6 +515,22 @@ def test_metrics(house: House, mosquitto: Mosquitto) -> None:
     served.end()
 
 
+def test_silent_connections_to_the_metrics(house: House, monkeypatch: pytest.MonkeyPatch) -> None:
+    """Who connects and says nothing, as anybody on the machine may, takes neither a thread nor an open file each of the service, which
+    sessions need; the metrics are had all the same."""
+    from wmbus_service import metrics
+    monkeypatch.setattr(metrics.Asked, "timeout", 0.2)
+    port = free_port()
+    metrics.serve(house.config, Metrics(port=port), service.Service(house.config, house.database))
+    threads = threading.active_count()
+    held = [socket.create_connection(("127.0.0.1", port)) for _ in range(4)]
+    with closing(urllib.request.urlopen(f"http://127.0.0.1:{port}/metrics", timeout=PATIENCE)) as answer:
+        assert b"wmbus_trouble 0" in answer.read()
+    assert threading.active_count() <= threads
+    for opened in held:
+        opened.close()
+
+
 def test_metrics_port_that_is_taken(house: House) -> None:
     """Where the metrics' port is another's, or none, it is said which one, and what to do."""
     from wmbus_service.metrics import serve
@@ -465,6 +540,18 @@ def test_metrics_port_that_is_taken(house: House) -> None:
                 serve(house.config, Metrics(port=port), service.Service(house.config, house.database))
     with pytest.raises(Trouble, match=r"radio\.\.house:9101: .*\[metrics\]"):
         serve(house.config, Metrics(host="radio..house"), service.Service(house.config, house.database))
+
+
+def test_a_session_and_a_wrong_clock(house: House, monkeypatch: pytest.MonkeyPatch) -> None:
+    """How long ago lines were looked for is told right also where the clock was set since then."""
+    from wmbus_service.metrics import Figures
+    served = service.Service(house.config, house.database)
+    served.turn()
+    now = time.time()
+    for wrong in (now - 86_400, now + 86_400):
+        monkeypatch.setattr(time, "time", lambda: wrong)  # noqa: B023
+        found = {it.name: it.samples[0].value for it in Figures(house.config, served).collect()}
+        assert 0 <= found["wmbus_session_age_seconds"] < PATIENCE
 
 
 def line_of_nobody() -> str:

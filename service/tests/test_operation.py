@@ -4,6 +4,7 @@ from __future__ import annotations
 import functools
 import itertools
 import os
+import pwd
 import resource
 import signal
 import socket
@@ -18,8 +19,9 @@ from dataclasses import replace
 from pathlib import Path
 
 import pytest
-from wmbus_service import receiving, retention, schema, service, session, steps, store
+from wmbus_service import receiving, retention, schema, service, session, status, steps, store
 from wmbus_service.commandline import main
+from wmbus_service.commands import put_command
 from wmbus_service.config import Config, Keep, Programs, Receiver
 from wmbus_service.ending import Ending
 from wmbus_service.service import Service
@@ -27,7 +29,7 @@ from wmbus_service.trouble import Trouble
 
 import messages
 from . import measure
-from .kill import MEMORY, Child
+from .kill import MEMORY, TOP, Child
 from .meters import line_of
 from .processes import PATIENCE, until
 from .stand_in import use_stand_in
@@ -115,6 +117,27 @@ def test_a_folder_that_takes_no_lock(tmp_path: Path) -> None:
     assert child.status == 0, (tmp_path / "log").read_text()
 
 
+@as_root
+def test_status_over_a_folder_that_cant_be_written(tmp_path: Path) -> None:
+    """What is known is told also where the file system became read-only, as after a fault of its disk, and whether a service runs."""
+    folder = tmp_path / "wmbus"
+    store.prepare_folder(folder)
+    with closing(store.open_store(folder / "wmbus.db", is_new=True)):
+        os.close(service.lock(folder))
+        for path in (tmp_path.parent.parent, tmp_path.parent, tmp_path):
+            path.chmod(0o755)
+        for path in (*folder.iterdir(), folder):
+            os.chown(path, NOBODY, NOBODY)
+            path.chmod(0o500 if path.is_dir() else 0o400)
+
+        def look() -> None:
+            os.seteuid(NOBODY)
+            assert "the service doesn't run" in status.status(Config(folder=folder), False)
+        child = Child(tmp_path / "log", look)
+        until(lambda: not child.is_running())
+    assert child.status == 0, (tmp_path / "log").read_text()
+
+
 def test_rights(tmp_path: Path) -> None:
     """Keys stand in the folder, so others may have no right on it, nor on the database and the roster."""
     folder = tmp_path / "wmbus"
@@ -156,6 +179,27 @@ def test_root_acts_as_the_owner() -> None:
         assert (folder / "wmbus.db").exists()
 
 
+@as_root
+@pytest.mark.parametrize("words", [("backup", "new"), ("restore", "copy"), ("export", "--state", "new")])
+def test_what_root_may_and_the_owner_may_not(words: tuple[str, ...]) -> None:
+    """Where root asks for a file that the service's user can't have, to whom the rest is left, it is told whose right is lacking."""
+    with tempfile.TemporaryDirectory() as place:
+        folder, config, own = Path(place) / "wmbus", Path(place) / "config.toml", Path(place) / "root"
+        Path(place).chmod(0o755)
+        own.mkdir(mode=0o700)
+        (own / "copy").touch(0o600)
+        config.write_text(f'folder = "{folder}"\n')
+        store.prepare_folder(folder)
+        with closing(store.open_store(folder / "wmbus.db", is_new=True)) as database:
+            store.set_setting(database, "own", "93" * 8)
+        for path in (*folder.iterdir(), folder):
+            os.chown(path, NOBODY, NOBODY)
+        child = Child(Path(place) / "log", lambda: print(main(["--config", str(config), *words[:-1], str(own / words[-1])])))
+        until(lambda: not child.is_running())
+        said = (Path(place) / "log").read_text()
+        assert "Permission denied" in said and f"as {pwd.getpwuid(NOBODY).pw_name}, to whom" in said
+
+
 def test_two_services(tmp_path: Path) -> None:
     """A second service on a folder ends at once, and once the first has ended it may begin."""
     store.prepare_folder(tmp_path / "wmbus")
@@ -187,6 +231,13 @@ def test_what_systemd_is_told(house: House, tmp_path: Path, monkeypatch: pytest.
         assert database.execute("select count(*) from reading").fetchone() == (1,)
 
 
+def test_a_socket_of_systemds_that_is_gone(tmp_path: Path, monkeypatch: pytest.MonkeyPatch) -> None:
+    """Where nobody listens any more at the socket that somebody named, as to a program that a service's shell started, it goes on (sd_notify(3):
+    what comes of it is best ignored)."""
+    monkeypatch.setenv("NOTIFY_SOCKET", str(tmp_path / "gone"))
+    service.notify("READY=1")
+
+
 @pytest.mark.parametrize("text", ["", "a line\n"])
 def test_that_it_lives_is_told_within_an_interval(house: House, tmp_path: Path, monkeypatch: pytest.MonkeyPatch, text: str) -> None:
     """Where the interval is longer than systemd waits for a sign of life (sd_watchdog_enabled(3)), it gets one all the same, whether
@@ -203,6 +254,41 @@ def test_that_it_lives_is_told_within_an_interval(house: House, tmp_path: Path, 
             assert [told.recv(100) for _ in range(5)] == [b"READY=1"] + [b"WATCHDOG=1"] * 4
         finally:
             assert child.end(signal.SIGTERM) == 0
+
+
+def test_an_interruption_at_a_terminal(house: House, tmp_path: Path) -> None:
+    """Ctrl-C, which a terminal gives to all programs in front of it, ends the service once the session that runs is committed."""
+    program, begun = tmp_path / "steps", tmp_path / "begun"
+    program.write_text(f'#!/bin/sh\ntouch {begun}\nsleep 0.5\nexec {TOP}/tests/reference/steps "$@"\n')
+    program.chmod(0o755)
+    house.spool(house.whole(house.meters[0]))
+    house.database.close()
+
+    def run() -> None:
+        os.setpgid(0, 0)
+        session_with(steps.run_steps, replace(house.config, programs=Programs(steps=str(program))))
+    child = Child(tmp_path / "log", run)
+    until(begun.exists)
+    os.killpg(child.pid, signal.SIGINT)
+    until(lambda: not child.is_running())
+    assert child.status == 0, (tmp_path / "log").read_text()
+    with closing(store.open_store(house.config.database)) as database:
+        assert database.execute("select count(*) from reading").fetchone() == (1,)
+
+
+@pytest.mark.parametrize("number, is_ignored", [(signal.SIGTERM, False), (signal.SIGINT, False), (signal.SIGHUP, False), (signal.SIGHUP, True)])
+def test_what_ends_a_process(tmp_path: Path, number: signal.Signals, is_ignored: bool) -> None:
+    """Also that its terminal is closed (signal(7), SIGHUP), so that what it made goes with it, as the demo's folder; but where nohup has it
+    ignore that."""
+    def run() -> None:
+        signal.signal(number, signal.SIG_IGN if is_ignored else signal.SIG_DFL)
+        ending = Ending()
+        ending.heed_signals()
+        signal.raise_signal(number)
+        assert ending.is_set() is not is_ignored
+    child = Child(tmp_path / "log", run)
+    until(lambda: not child.is_running())
+    assert child.status == 0, (tmp_path / "log").read_text()
 
 
 def test_an_end_at_any_moment(tmp_path: Path) -> None:
@@ -242,6 +328,24 @@ def test_a_line_is_heard_at_once(house: House, tmp_path: Path) -> None:
                     until(lambda: database.execute("select count(*) from reading").fetchone() == (1,))
             time.sleep(0.5)
             assert database.execute("select count(*) from reading").fetchone() == (1,)
+    finally:
+        assert child.end(signal.SIGTERM) == 0
+
+
+def test_a_command_beside_sessions_that_follow_each_other(house: House, tmp_path: Path, monkeypatch: pytest.MonkeyPatch) -> None:
+    """While there is much to hear, as behind a long pause, and a small machine takes long for each session, what an operator, the page or
+    the broker writes comes between two of them."""
+    program = tmp_path / "steps"
+    program.write_text(f'#!/bin/sh\nsleep 2\nexec {TOP}/tests/reference/steps "$@"\n')
+    program.chmod(0o755)
+    house.spool("".join(house.whole(house.meters[0]) for _ in range(40)))
+    house.database.close()
+    monkeypatch.setattr(session, "MOST", 1)
+    child = Child(tmp_path / "log", lambda: session_with(steps.run_steps, replace(house.config, programs=Programs(steps=str(program)))))
+    try:
+        with closing(store.open_store(house.config.database)) as database:
+            until(lambda: database.execute("select count(*) from line").fetchone() > (0,))
+            assert put_command(database, "a", house.meters[0].name, "01", NOW)
     finally:
         assert child.end(signal.SIGTERM) == 0
 
@@ -422,6 +526,18 @@ def test_what_retention_costs(house: House) -> None:
         house.database.set_progress_handler(None, 0)
     assert not house.all("select id from reading where payload is not null")
     assert len(steps) * 100 < 5000
+
+
+def test_what_status_costs(house: House) -> None:
+    """A meter's last reading is found in an index, and none of its others is read for it: a large house has millions."""
+    address = house.meters[0].name
+    rows = [(number, number, address, number, int(NOW), None, "00", None, 0, NOW) for number in range(1, 5001)]
+    house.database.executemany("insert into reading values (?, ?, ?, ?, ?, ?, ?, ?, ?, ?)", rows)
+    counted: list[None] = []
+    house.database.set_progress_handler(lambda: counted.append(None), 100)
+    assert status.meter(house.database, (address, "", None, 0, None), NOW)["counter"] == 5000
+    house.database.set_progress_handler(None, 0)
+    assert len(counted) * 100 < 10 * 5000
 
 
 def test_what_lines_cost_that_stay(house: House) -> None:

@@ -16,7 +16,7 @@ from pathlib import Path
 
 import pytest
 from wmbus_service import receiving
-from wmbus_service.checking import UNIT_GROUPS, look_at_receiver, tried
+from wmbus_service.checking import UNIT_GROUPS, look_at_downlinks, look_at_receiver, tried
 from wmbus_service.config import Config, Programs, Receiver
 from wmbus_service.receiving import PROFILES, Receiving, feed_of
 from wmbus_service.trouble import Trouble
@@ -161,14 +161,37 @@ def test_a_program_that_hangs(tmp_path: Path, monkeypatch: pytest.MonkeyPatch) -
                   receivers={"attic": Receiver(command=command, format="-")})
     (tmp_path / "wmbus/spool").mkdir(parents=True)
     Receiving(told, "attic")._feed()
-    status = Path(f"/proc/{(tmp_path / 'hangs').read_text().strip()}/stat")
+    until(lambda: has_ended((tmp_path / "hangs").read_text()), 5)
 
-    def has_ended() -> bool:
-        with suppress(OSError):
-            # (also what isn't reaped yet)
-            return status.read_text().split()[2] in "ZX"
-        return True
-    until(has_ended, 5)
+
+def has_ended(pid: str) -> bool:
+    """Whether a process runs no more."""
+    with suppress(OSError):
+        # (also what isn't reaped yet)
+        return Path(f"/proc/{pid.strip()}/stat").read_text().split()[2] in "ZX"
+    return True
+
+
+@pytest.mark.parametrize("number", [signal.SIGTERM, signal.SIGINT, signal.SIGHUP])
+def test_what_a_receiver_started_ends_with_it(tmp_path: Path, number: int) -> None:
+    """However it is told to end, also as a terminal does that is closed (signal(7), SIGHUP): what goes on would hold the stick."""
+    command = f"echo $$ >{tmp_path}/next; mv {tmp_path}/next {tmp_path}/radio; exec sleep 60"
+    told = Config(folder=tmp_path / "wmbus", programs=Programs(line_feed="sh -c cat"),
+                  receivers={"attic": Receiver(command=command, format="-")})
+
+    def receive() -> None:
+        # (the tests may be run by nohup)
+        signal.signal(number, signal.SIG_DFL)
+        Receiving(told, "attic").run()
+    child = Child(tmp_path / "log", receive)
+    until((tmp_path / "radio").exists)
+    radio = (tmp_path / "radio").read_text()
+    try:
+        assert child.end(number) == 0
+        assert has_ended(radio)
+    finally:
+        if not has_ended(radio):
+            os.kill(int(radio), signal.SIGKILL)
 
 
 def test_profiles() -> None:
@@ -186,13 +209,17 @@ def test_profiles() -> None:
 
 
 def test_programs_that_a_receiver_wants(tmp_path: Path, monkeypatch: pytest.MonkeyPatch) -> None:
-    """`check` names each program of a receiver's command that isn't there, and none that is; also what is no command."""
+    """`check` names each program of a receiver's command that isn't there, and none that is; also what is no command, and what a profile
+    makes no use of, as a command beside it."""
     (tmp_path / "rtl_sdr").write_text("#!/bin/sh\n")
     (tmp_path / "rtl_sdr").chmod(0o755)
     monkeypatch.setenv("PATH", f"{tmp_path}:/usr/bin:/bin")
     for told, said in ((Receiver(profile="rtl_wmbus"), "the program rtl_wmbus isn't there"),
                        (Receiver(command="rtl_sdr | absent -x", format="hex"), "the program absent isn't there"),
-                       (Receiver(command="cat 'a", format="hex"), "quotation")):
+                       (Receiver(command="cat 'a", format="hex"), "quotation"),
+                       (Receiver(profile="file", file="/dev/null", command="rtl_sdr", format="hex"), "profile file takes no `command`"),
+                       (Receiver(profile="rtl_433", device="/dev/null"), "profile rtl_433 takes no `device`"),
+                       (Receiver(profile="cul", device="/dev/null", port=7), "profile cul takes no `port`")):
         with pytest.raises(Trouble, match=said):
             look_at_receiver("attic", told)
     (tmp_path / "rtl_wmbus").symlink_to(tmp_path / "rtl_sdr")
@@ -225,6 +252,20 @@ def test_a_stick_that_the_unit_may_read(tmp_path: Path) -> None:
         child = Child(tmp_path / "log", functools.partial(look, is_right))
         until(lambda: not child.is_running())  # noqa: B023
         assert child.status == 0, (tmp_path / "log").read_text()
+
+
+def test_downlinks_that_the_unit_may_write(tmp_path: Path) -> None:
+    """`check` takes a file or a pipe, and no device: the service's unit has none, and writes files in its folder alone (systemd.exec(5))."""
+    unit = (TOP / "service/systemd/wmbus.service").read_text().splitlines()
+    assert {"PrivateDevices=yes", "ProtectSystem=strict", "StateDirectory=wmbus"} <= {*unit}
+    assert not [line for line in unit if line.startswith("ReadWritePaths=")]
+    os.mkfifo(tmp_path / "pipe")
+    (tmp_path / "file").touch()
+    for path in (tmp_path / "pipe", tmp_path / "file", tmp_path / "later"):
+        look_at_downlinks("attic", Receiver(downlinks=str(path)))
+    for path in (Path("/dev/tty"), tmp_path):
+        with pytest.raises(Trouble, match="is no file and no pipe"):
+            look_at_downlinks("attic", Receiver(downlinks=str(path)))
 
 
 def test_two_writers_of_a_receiver(tmp_path: Path) -> None:

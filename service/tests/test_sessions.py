@@ -1,6 +1,7 @@
 """Sessions in this process: which lines they take, what they do where the program fails, and when ticks are due."""
 from __future__ import annotations
 
+import itertools
 import json
 import os
 import random
@@ -127,9 +128,11 @@ def test_a_key_that_is_refused(house: House, monkeypatch: pytest.MonkeyPatch) ->
 
 
 def test_each_change_of_a_command_is_told(house: House, monkeypatch: pytest.MonkeyPatch) -> None:
-    """Also that a new key was taken, and that a command was set aside, is a message for the broker."""
+    """Also that a new key was taken, that a command among a receiver's lines is queued, and that one was set aside, is a message for the
+    broker."""
     config = replace(house.config, mqtt=Mqtt())
     sessions = Sessions(config, house.database)
+    house.spool(f"Q {house.meters[0].name} 01\n")
     put_key(house.database, "key", house.meters[0].name, "00" * 16, NOW)
     sessions.next(NOW)
     put_command(house.database, "bad", house.meters[0].name, "ee", NOW)
@@ -137,8 +140,8 @@ def test_each_change_of_a_command_is_told(house: House, monkeypatch: pytest.Monk
     for _ in range(2):
         sessions.next(NOW)
     told = [(topic, json.loads(text)) for topic, text in house.all("select topic, payload from publication order by id")]
-    assert [topic for topic, _ in told] == [f"wmbus/commands/{house.meters[0].name}"] * 2
-    assert [(it["id"], it["state"]) for _, it in told] == [("key", "done"), ("bad", "refused")]
+    assert [topic for topic, _ in told] == [f"wmbus/commands/{house.meters[0].name}"] * 3
+    assert [(it["id"], it["state"]) for _, it in told] == [("key", "done"), ("line 2", "queued"), ("bad", "refused")]
 
 
 def test_a_value_with_a_qualifier(house: House) -> None:
@@ -175,7 +178,7 @@ def test_a_program_that_always_fails(house: House, monkeypatch: pytest.MonkeyPat
 @pytest.mark.parametrize("word", ["kill $$", "exit 10"])
 def test_a_program_that_fails_once(house: House, monkeypatch: pytest.MonkeyPatch, word: str) -> None:
     """Where the program is ended from outside, as when a machine is shut down, or lacks memory for a moment, its only line is heard
-    again."""
+    again; the former is trouble, as sessions stand still for as long as it is so."""
     house.spool(house.whole(house.meters[0]))
     failures = [word]
 
@@ -184,7 +187,11 @@ def test_a_program_that_fails_once(house: House, monkeypatch: pytest.MonkeyPatch
         return steps.Told([], {})
     with monkeypatch.context() as within:
         within.setattr(session, "run_steps", failing_once)
-        assert house.sessions.next(NOW) == (word == "exit 10")
+        if word == "exit 10":
+            assert house.sessions.next(NOW) == 1
+        else:
+            with pytest.raises(Trouble, match="ended from outside"):
+                house.sessions.next(NOW)
     assert not house.all("select id from aside")
     house.hear()
     assert len(house.all("select id from reading")) == 1
@@ -218,6 +225,23 @@ def test_whole_lines_alone(house: House) -> None:
     assert [path.exists(), later.exists()] == [False, True]
     house.hear()
     assert house.all("select file, taken from source") == [(later.name, len(third))]
+
+
+def test_a_file_that_would_come_back(house: House, monkeypatch: pytest.MonkeyPatch) -> None:
+    """The place of a file that went is forgotten once the folder without it stands on the disk (fsync(2)): after a power cut the file may be
+    there again, and its lines would be heard a second time."""
+    first = house.spool(house.whole(house.meters[0]))
+    house.spool(house.whole(house.meters[0]))
+    synced: list[tuple[bool, int]] = []
+
+    def sync(opened: int) -> None:
+        if os.readlink(f"/proc/self/fd/{opened}") == str(house.config.spool):
+            synced.append((first.exists(), len(house.all("select file from source"))))
+    monkeypatch.setattr(spool, "sync", sync)
+    house.hear()
+    house.sessions.next(NOW)
+    assert not first.exists() and len(house.all("select file from source")) == 1
+    assert synced[-1] == (False, 2)
 
 
 def test_a_file_that_is_written_stays(house: House) -> None:
@@ -269,14 +293,16 @@ def test_files_that_went(house: House) -> None:
     assert len(house.all("select file from source")) <= 2
 
 
-def test_an_empty_file_that_goes_meanwhile(house: House, monkeypatch: pytest.MonkeyPatch) -> None:
+@pytest.mark.parametrize("asked", [1, 2, 3])
+def test_an_empty_file_that_goes_meanwhile(house: House, monkeypatch: pytest.MonkeyPatch, asked: int) -> None:
     """A receiver that heard nothing takes its file away, at whichever moment of a session: the others' lines are heard."""
     gone = house.spool("")
     house.spool(house.whole(house.meters[0]))
-    place_of = spool.place_of
+    place_of, places = spool.place_of, itertools.count(1)
 
     def going(*words: Any) -> int:
-        gone.unlink(missing_ok=True)
+        if next(places) == asked:
+            gone.unlink(missing_ok=True)
         return place_of(*words)
     monkeypatch.setattr(spool, "place_of", going)
     house.hear()

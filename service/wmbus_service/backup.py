@@ -2,6 +2,7 @@
 from __future__ import annotations
 
 import os
+import re
 import sqlite3
 import subprocess
 import time
@@ -14,11 +15,13 @@ from .commands import OPEN
 from .config import Config, words_of
 from .memory_files import memory_files, path_of
 from .meters import DOWN_PLACE
+from .publications import Publications
 from .spool import sync
 from .steps import ProgramFailed, run_steps, state_text
 from .trouble import Trouble
 
 HIGHEST, MOST_METERS = (1 << 32) - 1, 4096
+SMALLER = "take a smaller margin"
 
 
 def back_up(config: Config, target: Path) -> int:
@@ -31,7 +34,7 @@ def back_up(config: Config, target: Path) -> int:
     try:
         with closing(store.open_store(config.database)) as database, closing(sqlite3.connect(beside, isolation_level=None)) as copy:
             database.backup(copy)
-            look_over(copy, beside)
+            look_over(copy, config.database)
             copy.execute("pragma journal_mode = delete")
         _put_in_place(beside, target)
     finally:
@@ -90,7 +93,7 @@ def _restore_over(config: Config, source: Path, beside: Path, margin: int) -> in
     with closing(store.open_store(beside)) as database:
         with store.transaction(database):
             count = raise_counters(config, database, margin)
-            _give_up(database, time.time())
+            _give_up(config, database, time.time())
         _judge(config, database)
         database.execute("pragma journal_mode = delete")
     _gather_commits(config.database)
@@ -125,7 +128,10 @@ def raised_by(block: str, margin: int) -> str:
     """A meter's block with a higher counter."""
     line, _, rest = block.partition("\n")
     fields = line.split(" ")
-    fields[DOWN_PLACE] = str(min(int(fields[DOWN_PLACE]) + margin, HIGHEST))
+    down = int(fields[DOWN_PLACE]) + margin
+    if down > HIGHEST:
+        raise Trouble(f"meter {fields[1]}", f"its downlink counter would pass {HIGHEST}, and no command would reach it any more", SMALLER)
+    fields[DOWN_PLACE] = str(down)
     return f"{' '.join(fields)}\n{rest}"
 
 
@@ -141,27 +147,27 @@ def raised_by_program(program: Sequence[str], own: str, blocks: Sequence[str], m
                           "name it in the configuration under [programs]") from None
         if done.returncode:
             said = done.stderr.decode("utf-8", "replace").strip()[:300]
-            raise Trouble(words[0], f"status {done.returncode}: {said}", "take a smaller margin")
-        lines = os.pread(made, os.fstat(made).st_size, 0).decode("latin-1").splitlines(keepends=True)
-    found: list[str] = []
-    for line in lines[2:-1]:
-        if line.startswith("meter "):
-            found.append(line)
-        else:
-            found[-1] += line
+            raise Trouble(words[0], f"status {done.returncode}: {said}", SMALLER)
+        written = os.pread(made, os.fstat(made).st_size, 0).decode("latin-1")
+    _, *found = re.split("^(?=meter )", written.removesuffix("end\n"), flags=re.MULTILINE)
+    if not written.endswith("\nend\n") or len(found) != len(blocks):
+        raise Trouble(words[0], "what it wrote isn't the state of all meters", "look at its release")
     return found
 
 
-def _give_up(database: sqlite3.Connection, now: float) -> None:
+def _give_up(config: Config, database: sqlite3.Connection, now: float) -> None:
     """What was open when the copy was made isn't done again."""
-    database.execute("update command set state = 'cancelled', reason = 'restored', changed = ?,"
-                     " payload = case kind when 'rekey' then '' else payload end where state = 'waiting'", (now,))
+    cancelled = database.execute("update command set state = 'cancelled', reason = 'restored', changed = ?,"
+                                 " payload = case kind when 'rekey' then '' else payload end where state = 'waiting' returning id",
+                                 (now,)).fetchall()
     marks = ", ".join("?" * len(OPEN))
     database.execute(f"update command set wish = 'cancel', reason = 'restored', changed = ? where state in ({marks})", (now, *OPEN))
     database.execute("update outbox set missed = 'restored' where sent is null and missed is null")
     # (the broker has later messages than the copy's; sensors are announced anew)
     database.execute("delete from publication")
     database.execute("delete from announced")
+    for (ident,) in cancelled:
+        Publications(config.mqtt, database).command(ident)
 
 
 def _judge(config: Config, database: sqlite3.Connection) -> None:

@@ -9,11 +9,11 @@ import json
 import logging
 import socket
 import sqlite3
-import ssl
 import struct
 import threading
 import time
 from collections.abc import Callable
+from contextlib import closing
 from pathlib import Path
 from typing import Any
 
@@ -43,7 +43,7 @@ class Lost(Exception):
 
 
 class Broker(threading.Thread):
-    """What goes to the broker and comes from it."""
+    """What goes to the broker and comes from it, whatever a connection ends by."""
 
     def __init__(self, config: Config, told: Mqtt, ending: Ending) -> None:
         super().__init__(name="mqtt", daemon=True)
@@ -52,13 +52,13 @@ class Broker(threading.Thread):
 
     def run(self) -> None:
         """Connections, one after the other."""
-        database = store.open_store(self.config.database)
         pause, said = LEAST_PAUSE, ""
         while not self.ending.is_set():
             began = time.monotonic()
             try:
-                self._serve(self._connection(database), database)
-            except (Lost, OSError, ssl.SSLError, sqlite3.Error, Trouble) as fault:
+                with closing(store.open_store(self.config.database)) as database:
+                    self._serve(self._connection(database), database)
+            except Exception as fault:
                 if str(fault) != said:
                     log.warning("MQTT: %s:%d: %s; it is tried again", self.told.host, self.told.port, fault)
                     said = str(fault)
@@ -69,7 +69,7 @@ class Broker(threading.Thread):
     def _connection(self, database: sqlite3.Connection) -> mqtt.Client:
         """A connection under the service's name, so that the broker keeps the commands that come while there is none."""
         told = self.told
-        look_at_names(told)
+        look_at_settings(told)
 
         def heard(_client: Any, _data: Any, message: mqtt.MQTTMessage) -> None:
             try:
@@ -120,7 +120,11 @@ def _connect(told: Mqtt, client: mqtt.Client) -> None:
     if told.user:
         client.username_pw_set(told.user, _password_of(told.password_file) if told.password_file else None)
     if told.tls:
-        client.tls_set(ca_certs=told.authority or None)
+        try:
+            client.tls_set(ca_certs=told.authority or None)
+        except OSError as fault:
+            raise Trouble(told.authority or "mqtt.tls", f"the authority's certificate can't be read: {fault.strerror or fault}",
+                          "name the CA's file, in PEM, as mqtt.authority") from None
     answers: list[int] = []
 
     def connected(_client: Any, _data: Any, _flags: Any, answer: int) -> None:
@@ -128,9 +132,12 @@ def _connect(told: Mqtt, client: mqtt.Client) -> None:
 
     client.on_connect = connected
     try:
-        client.connect(told.host, told.port, keepalive=30)
+        status = client.connect(told.host, told.port, keepalive=30)
     except (ValueError, OverflowError) as fault:
         raise Lost(str(fault)) from None
+    if status != mqtt.MQTT_ERR_SUCCESS:
+        # (it was reset at once, as by what stands in front of a broker that is down)
+        raise Lost(mqtt.error_string(status))
     # (else each small message waits for the answer to the one before it)
     client.socket().setsockopt(socket.IPPROTO_TCP, socket.TCP_NODELAY, 1)
     _until(client, lambda: len(answers), 1)
@@ -141,24 +148,29 @@ def _connect(told: Mqtt, client: mqtt.Client) -> None:
 def _password_of(path: str) -> str:
     """The password that stands in a file."""
     try:
-        return Path(path).read_text(encoding="utf-8").strip()
+        # (editors on Windows put a mark in front)
+        return Path(path).read_text(encoding="utf-8-sig").strip()
     except UnicodeDecodeError:
         raise Trouble(path, "the password isn't in UTF-8", "write it into the file anew") from None
 
 
-def look_at_names(told: Mqtt) -> None:
-    """Names under which nothing can be published, or kept by the broker."""
+def look_at_settings(told: Mqtt) -> None:
+    """Names under which nothing can be published, or kept by the broker, and an authority without that for which it is."""
     for name, topic in (("topic", told.topic), ("discovery", told.discovery)):
         if set(topic) & set("+#"):
             raise Trouble(f"mqtt.{name}", "it has + or #, and nothing can be published under it", "name a topic without these signs")
     if not told.client:
         raise Trouble("mqtt.client", "it is empty, and the broker keeps under it what comes while there is no connection",
                       "give it a name, or leave it out")
+    if told.authority and not told.tls:
+        raise Trouble("mqtt.authority", "without `tls` all goes in the clear, the password too", "write tls = true, or leave it out")
 
 
 def try_connection(told: Mqtt) -> None:
     """Connects under another name, and leaves again."""
-    look_at_names(told)
+    look_at_settings(told)
+    if told.password_file and not told.user:
+        raise Trouble("mqtt.password_file", "without `user` no password is sent (MQTT 3.1.1, 3.1.2.9)", "name the user, or leave it out")
     try:
         client = mqtt.Client(client_id="")
         _connect(told, client)

@@ -16,8 +16,8 @@ from pathlib import Path
 
 from . import meters, store
 from .config import Config, Mqtt, Receiver, unproved_words, words_of
-from .receiving import feed_of
-from .steps import ProgramFailed, run_steps, state_text
+from .receiving import PROFILES, feed_of
+from .steps import ProgramFailed, output_of, run_steps, state_text
 from .trouble import Trouble
 
 LEAST_ROOM = 256 << 20
@@ -28,6 +28,8 @@ QUOTED = re.compile(r"""'[^']*'|"(?:\\.|[^"\\])*"|\\.""", re.DOTALL)
 HIDDEN = {ord(sign): 0xE000 + ord(sign) for sign in BETWEEN}
 # those of wmbus-receiver@.service, by which it reads sticks
 UNIT_GROUPS = ("plugdev", "dialout")
+# what some profiles take of a receiver's settings
+SETTINGS = ("command", "device", "host", "port", "file")
 
 
 @dataclass(frozen=True)
@@ -61,7 +63,7 @@ def check(config: Config) -> Iterator[Finding]:
     if not config.receivers:
         yield Finding("receivers", "receivers: there are none; docs/SERVICE.md has examples")
     for name, told in config.receivers.items():
-        yield tried(f"receiver {name}", lambda name=name, told=told: look_at_receiver(name, told))  # type: ignore[misc]
+        yield tried(f"receiver {name}", lambda name=name, told=told: look_at_feed(config, name, told))  # type: ignore[misc]
         yield tried(f"downlinks of {name}", lambda name=name, told=told: look_at_downlinks(name, told))  # type: ignore[misc]
     if config.mqtt:
         yield tried(f"MQTT broker {config.mqtt.host}:{config.mqtt.port}", lambda: look_at_broker(config, config.mqtt))
@@ -71,9 +73,9 @@ def tried(name: str, look: Callable[[], object]) -> Finding:
     """Looks at something; what is wrong."""
     try:
         look()
-    except (Trouble, OSError, sqlite3.Error) as fault:
+    except (Trouble, OSError, ImportError, sqlite3.Error) as fault:
         told = store.trouble_of(name, fault) if isinstance(fault, sqlite3.Error) else fault
-        return Finding(name, f"{name}: {told}" if isinstance(told, OSError) else str(told))
+        return Finding(name, str(told) if isinstance(told, Trouble) else f"{name}: {told}")
     return Finding(name)
 
 
@@ -101,9 +103,13 @@ def look_at_steps(config: Config) -> None:
 
 
 def look_at_roster(config: Config) -> None:
-    """A roster that the program doesn't take."""
-    for piece in meters.pieces_of(meters.read_roster(Path(config.roster))):
+    """A roster that the program doesn't take, or that is of another collector than the database."""
+    text = meters.read_roster(Path(config.roster))
+    for piece in meters.pieces_of(text):
         meters.judge_roster(words_of(config.programs.steps), piece, config.roster)
+    if config.database.exists():
+        with closing(store.open_store(config.database)) as database:
+            meters.judge_own(database, meters.meters_in(text)[0], config.roster)
 
 
 def look_at_meters(config: Config) -> None:
@@ -118,9 +124,24 @@ def look_at_meters(config: Config) -> None:
         raise Trouble(config.database, "no meter is known", "`wmbus-service add` or `wmbus-service import` adds some, or name a `roster`")
 
 
+def look_at_feed(config: Config, name: str, told: Receiver) -> None:
+    """A receiver, and whether line_feed takes what it prints."""
+    look_at_receiver(name, told)
+    _, form = feed_of(name, told)
+    try:
+        output_of([*words_of(config.programs.line_feed), form], [])
+    except ProgramFailed:
+        raise Trouble(f"receivers.{name}.format", f"line_feed doesn't take the format {form}",
+                      "docs/FORMATS.md, \"What radio receivers print\", has all formats") from None
+
+
 def look_at_receiver(name: str, told: Receiver) -> None:
     """A radio's programs and its device."""
     command, _ = feed_of(name, told)
+    unused = [word for word in SETTINGS if told.profile and getattr(told, word) and "{" + word + "}" not in PROFILES[told.profile][0]]
+    if unused:
+        raise Trouble(f"receivers.{name}", f"the profile {told.profile} takes no `{unused[0]}`",
+                      "leave it out, or give a `command` with its `format` in place of the profile")
     try:
         programs = list(programs_in(command))
     except ValueError as fault:
@@ -171,9 +192,8 @@ def look_at_downlinks(name: str, told: Receiver) -> None:
         raise Trouble(f"receivers.{name}", "it can't send, and commands to meters that it hears expire",
                       "name `downlinks`, the file or pipe from which its radio sends")
     path = Path(told.downlinks)
-    if path.exists() and not (stat.S_ISREG(path.stat().st_mode) or stat.S_ISFIFO(path.stat().st_mode)
-                              or stat.S_ISCHR(path.stat().st_mode)):
-        raise Trouble(f"receivers.{name}.downlinks", f"{path} is no file and no pipe")
+    if path.exists() and not (path.is_file() or path.is_fifo()):
+        raise Trouble(f"receivers.{name}.downlinks", f"{path} is no file and no pipe", "name one from which the radio's program reads")
     if not os.access(path if path.exists() else path.parent, os.W_OK):
         raise Trouble(f"receivers.{name}.downlinks", f"{path} can't be written by this user")
 

@@ -5,6 +5,7 @@ import argparse
 import getpass
 import logging
 import os
+import pwd
 import re
 import secrets
 import sqlite3
@@ -16,8 +17,8 @@ from pathlib import Path
 
 from . import backup, checking, demo, exporting, importing, key_lists, meters, service, store
 from .commands import cancel_command, put_command, put_key
-from .config import Config, Page, Programs, read_config
-from .printing import leave_unread, parsed
+from .config import Config, Page, Programs, read_config, words_of
+from .printing import leave_unread, open_streams, parsed
 from .publications import Publications
 from .receiving import Receiving
 from .status import status
@@ -33,6 +34,8 @@ MOST_COUNT = 65_535
 
 def main(given: list[str]) -> int:
     """Does what is asked for; the exit status."""
+    open_streams()
+    is_root = not os.geteuid()
     logging.basicConfig(level=logging.INFO, format="%(levelname)s %(message)s", stream=sys.stderr)
     try:
         asked = parsed(words(), given)
@@ -43,11 +46,15 @@ def main(given: list[str]) -> int:
         said = str(trouble)
     except sqlite3.Error as fault:
         said = str(store.trouble_of(Path("the database"), fault))
+    except ImportError as fault:
+        said = f"{fault}; docs/SERVICE.md names the packages of Debian that it wants"
     except BrokenPipeError:
         leave_unread()
         return TROUBLE
     except OSError as fault:
         said = str(fault)
+        if isinstance(fault, PermissionError) and is_root and os.geteuid():
+            said += f"; this was done as {pwd.getpwuid(os.geteuid()).pw_name}, to whom the service's folder belongs"
     except EOFError:
         said = "nothing was entered, and nothing was done"
     except KeyboardInterrupt:
@@ -136,7 +143,7 @@ def _demo_words(command: Command) -> None:
     made.add_argument("--port", metavar="N", type=_count, default=Page().port,
                       help=f"where the page is ({Page().port}); 0 takes a free one")
     made.add_argument("--text", action="store_true", help="says what was read, in place of a page, and ends")
-    made.add_argument("--steps", metavar="PROGRAM", default=Programs().steps,
+    made.add_argument("--steps", metavar="PROGRAM", type=_program, default=Programs().steps,
                       help=f"the program of the sessions, where it isn't {Programs().steps}")
 
 
@@ -145,6 +152,16 @@ def _count(text: str) -> int:
     if not text.isascii() or not text.isdigit() or int(text) > MOST_COUNT:
         raise argparse.ArgumentTypeError(f"this is no number up to {MOST_COUNT}")
     return int(text)
+
+
+def _program(text: str) -> str:
+    """A program with its first words."""
+    try:
+        if words_of(text):
+            return text
+    except ValueError:
+        pass
+    raise argparse.ArgumentTypeError("this is no command")
 
 
 def _moment(text: str) -> int:
@@ -206,16 +223,24 @@ def _status(asked: argparse.Namespace) -> int:
 
 def _add(asked: argparse.Namespace) -> int:
     config = _config(asked)
+    address = _digits(f"meter {asked.address}", asked.address.lower(), 16, "`meter_name` makes it of what stands on the label")
     with _opened(config, True) as database:
         own = _own(config, database, asked.own)
-        text = f"wmbus-roster 2\nown {own}\nmeter {asked.address.lower()} {asked.mode} {_key(asked.address)} - - 0 0\n"
-        added = meters.take_roster(config, database, text, f"meter {asked.address}")
+        key = _digits(f"key of {address}", _key(asked.address), 32, "copy it again")
+        text = f"wmbus-roster 2\nown {own}\nmeter {address} {asked.mode} {key} - - 0 0\n"
+        added = meters.take_roster(config, database, text, f"meter {asked.address}", meters.name_of(asked.name))
         if not added:
             raise Trouble(f"meter {asked.address}", "it is known already",
                           "its key stays as it is; `wmbus-service rekey` gives a second one")
-        database.execute("update meter set name = ? where address = ?", (meters.name_of(asked.name), asked.address.lower()))
-    print(f"meter {asked.address.lower()} was added")
+    print(f"meter {address} was added")
     return DONE
+
+
+def _digits(what: str, text: str, count: int, remedy: str) -> str:
+    """So many hexadecimal digits. What has other signs, which may not be seen, is named by who judges rosters."""
+    if text.isascii() and not re.fullmatch(f"[0-9a-f]{{{count}}}", text):
+        raise Trouble(what, f"it isn't {count} hexadecimal digits", remedy)
+    return text
 
 
 def _own(config: Config, database: sqlite3.Connection, asked: str | None) -> str:
@@ -223,7 +248,7 @@ def _own(config: Config, database: sqlite3.Connection, asked: str | None) -> str
     if not own:
         raise Trouble(config.database, "the collector's own address isn't known",
                       "name it with --own, sixteen hexadecimal digits that no meter has")
-    return own
+    return _digits("the collector's own address", own, 16, "name one that no meter has")
 
 
 def _secret(what: str) -> str:
@@ -247,8 +272,9 @@ def _import(asked: argparse.Namespace) -> int:
     rows = importing.read_list(asked.list, content, lambda: _secret(f"password of {asked.list}"))
     with _opened(config, True) as database:
         wish = importing.Wish(_own(config, database, asked.own), asked.mode, asked.heard)
-        added, left = importing.take_list(config, database, asked.list, rows, wish)
-    print(f"{added} new meters" + (f"; {left} weren't heard yet, and are left" if left else ""))
+        added, others, left = importing.take_list(config, database, asked.list, rows, wish)
+    print(f"{added} new meters" + (f"; {others} are known with another key, and keep theirs" if others else "")
+          + (f"; {left} weren't heard yet, and are left" if left else ""))
     return DONE
 
 
@@ -262,27 +288,32 @@ def _rekey(asked: argparse.Namespace) -> int:
 def _command(asked: argparse.Namespace) -> int:
     config = _config(asked)
     with _opened(config) as database:
-        if asked.cancel:
+        if asked.cancel is not None:
             state = cancel_command(database, asked.cancel, time.time(), Publications(config.mqtt, database))
             print(f"command {asked.cancel} is {state}" + ("; the next session cancels it" if state in ("queued", "sent") else ""))
             return DONE
         if not asked.address or not asked.payload:
             raise Trouble("the command", "it has no METER or no HEX", "`wmbus-service command --help` shows both")
-        ident = asked.id or f"cli-{secrets.token_hex(4)}"
+        ident = f"cli-{secrets.token_hex(4)}" if asked.id is None else asked.id
         is_new = put_command(database, ident, asked.address, asked.payload, time.time())
     print(f"command {ident} waits" if is_new else f"command {ident} was taken before; nothing is sent again")
     return DONE
 
 
 def _export(asked: argparse.Namespace) -> int:
+    if (asked.state or asked.lines) and (asked.meter or asked.since):
+        raise Trouble("the export", "--meter and --since are of values alone", "leave them out: all meters are in a state and in lines")
     with _opened(_config(asked)) as database:
         if asked.state:
             _write_own(asked.state, [exporting.state(database)])
         elif asked.lines:
             _write_own(asked.lines, exporting.lines(database))
         else:
+            address = asked.meter and asked.meter.lower()
+            if address is not None:
+                meters.judge_known(database, address, "the export")
             rows = exporting.as_json if asked.json else exporting.as_csv
-            sys.stdout.writelines(rows(database, asked.meter and asked.meter.lower(), asked.since))
+            sys.stdout.writelines(rows(database, address, asked.since))
     return DONE
 
 

@@ -4,6 +4,7 @@ from __future__ import annotations
 import re
 import sqlite3
 
+from .meters import judge_known
 from .publications import Publications
 from .store import transaction
 from .trouble import Trouble
@@ -46,8 +47,7 @@ def judge_ident(ident: str) -> None:
 
 def _put(database: sqlite3.Connection, ident: str, address: str, kind: str, payload: str, now: float) -> bool:
     judge_ident(ident)
-    if not database.execute("select 1 from meter where address = ?", (address,)).fetchone():
-        raise Trouble(f"command {ident}", f"there is no meter {address}", "`wmbus-service status` lists the meters")
+    judge_known(database, address, f"command {ident}")
     added = database.execute("insert or ignore into command (id, address, kind, payload, made, changed) values (?, ?, ?, ?, ?, ?)",
                              (ident, address, kind, payload, now, now))
     return bool(added.rowcount)

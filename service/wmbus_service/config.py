@@ -185,6 +185,8 @@ def read_config(path: Path) -> Config:
     assert isinstance(config, Config)
     for known in dataclasses.fields(Programs):
         _look_at_program(path, known, getattr(config.programs, known.name))
+    if not config.spool_bytes:
+        raise Trouble(path, "spool_bytes is 0, and no receiver would hear anything", "leave it out, or name more")
     return config
 
 
@@ -194,8 +196,8 @@ def _look_at_program(path: Path, known: dataclasses.Field[str], command: str) ->
         is_empty = not words_of(command)
     except ValueError as fault:
         raise Trouble(path, f"programs.{known.name} isn't a command: {fault}", "look at its quotes") from None
-    if is_empty and known.default is dataclasses.MISSING:
-        raise Trouble(path, f"programs.{known.name} is empty", "leave it out: the program that is installed is taken then")
+    if is_empty and (command or known.default is dataclasses.MISSING):
+        raise Trouble(path, f"programs.{known.name} is empty", "leave it out: the program that is installed does its work then, or the service itself")
 
 
 def read_settings(path: Path, wanted: Any, document: str) -> object:
@@ -226,6 +228,8 @@ def _value_of(name: str, wanted: Any, told: object) -> object:
         return _table_of(name, wanted, told)
     if typing.get_origin(wanted) is dict:
         return _named_tables(name, typing.get_args(wanted)[1], told)
+    if isinstance(told, str) and "\0" in told:
+        raise _Faulty(f"{name} has a NUL, which stands in no path and no word")
     if wanted is Path and isinstance(told, str) and told.startswith("/"):
         return Path(told)
     if wanted is float and isinstance(told, (int, float)) and not isinstance(told, bool) and 0 < told < 10 ** 9:

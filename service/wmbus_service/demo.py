@@ -103,6 +103,8 @@ def run(programs: Programs, days: int, port: int | None, say: Say) -> None:
         served = None if port is None else Served(made.config)
         say(unproved_words(programs.steps) or f"{programs.steps} tells the sessions")
         made.hear(say)
+        if made.service.ending.is_set():
+            return
         if served is None:
             say("\n".join(made.told()))
             return

@@ -7,6 +7,7 @@ import select
 import signal
 import time
 import weakref
+from collections.abc import Callable
 from types import FrameType
 
 # a signal that comes just before a wait begins is seen when the next slice does
@@ -24,13 +25,16 @@ class Ending:
         for opened in (self._told, self._tell):
             weakref.finalize(self, os.close, opened)
 
-    def heed_signals(self) -> None:
-        """From now on SIGTERM and SIGINT end the process so."""
+    def heed_signals(self, behind: Callable[[], None] = lambda: None) -> None:
+        """From now on SIGTERM and SIGINT end the process so, and that its terminal is closed, unless nohup has it ignore that; what has to
+        be done then is done behind it."""
         def end(_number: int, _frame: FrameType | None) -> None:
             self.set()
+            behind()
 
-        for number in (signal.SIGTERM, signal.SIGINT):
-            signal.signal(number, end)
+        for number in (signal.SIGTERM, signal.SIGINT, signal.SIGHUP):
+            if number != signal.SIGHUP or signal.getsignal(number) != signal.SIG_IGN:
+                signal.signal(number, end)
 
     def is_set(self) -> bool:
         """Whether it is to end."""

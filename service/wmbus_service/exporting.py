@@ -14,16 +14,24 @@ from .trouble import Trouble
 
 HEAD = ("moment", "address", "name", "counter", "quantity", "value", "unit", "function", "storage", "tariff", "subunit", "receiver",
         "modifiers")
+# readings that are taken at once: between two such pieces nothing of the database is held, however long who asks reads on nothing
+PIECE = 200
+LAST_OF_PIECE = ("select max(id) from (select id from reading where address = coalesce(?, address) and moment >= ? and id > ?"
+                 " order by id limit ?)")
 QUERY = ("select moment, reading.address, meter.name, counter, quantity, value, exponent, unit, function, storage, tariff, subunit,"
-         " reading.receiver, modifiers from record join reading on reading.id = record.reading"
-         " left join meter on meter.address = reading.address"
-         " where reading.address = coalesce(?, reading.address) and moment >= ? order by reading.id, record.place")
+         " reading.receiver, modifiers from reading cross join record on record.reading = reading.id"
+         " left join meter on meter.address = reading.address where reading.address = coalesce(?, reading.address) and moment >= ?"
+         " and reading.id > ? and reading.id <= ? order by reading.id, record.place")
 
 
 def values(database: sqlite3.Connection, address: str | None, since: int) -> Iterator[dict[str, object]]:
-    """The values of all readings, or those of a meter, from a moment on."""
-    for moment, meter, name, counter, quantity, value, exponent, unit, *rest in database.execute(QUERY, (address, since)):
-        yield dict(zip(HEAD, (moment, meter, name or "", counter, quantity, shown(value, exponent), unit, *rest), strict=True))
+    """The values of all readings, or those of a meter, from a moment on, piece by piece."""
+    behind = 0
+    while last := database.execute(LAST_OF_PIECE, (address, since, behind, PIECE)).fetchone()[0]:
+        rows = database.execute(QUERY, (address, since, behind, last)).fetchall()
+        for moment, meter, name, counter, quantity, value, exponent, unit, *rest in rows:
+            yield dict(zip(HEAD, (moment, meter, name or "", counter, quantity, shown(value, exponent), unit, *rest), strict=True))
+        behind = last
 
 
 def as_csv(database: sqlite3.Connection, address: str | None, since: int) -> Iterator[str]:
@@ -43,7 +51,7 @@ def _csv_line(fields: Iterable[object]) -> str:
 def as_json(database: sqlite3.Connection, address: str | None, since: int) -> Iterator[str]:
     """The values as JSON objects, one a line."""
     for row in values(database, address, since):
-        yield json.dumps(row, ensure_ascii=False) + "\n"
+        yield json.dumps(row) + "\n"
 
 
 def state(database: sqlite3.Connection) -> str:

@@ -1,6 +1,7 @@
 """Meters out of lists of keys, all of a list or none: those with columns (key_lists), and Kamstrup's key files (kem)."""
 from __future__ import annotations
 
+import json
 import re
 import sqlite3
 import subprocess
@@ -12,7 +13,7 @@ from . import key_lists, store
 from .asking import Database
 from .config import Config, words_of
 from .key_lists import Row
-from .meters import name_of, take_roster
+from .meters import KEY_PLACE, name_of, take_roster
 from .trouble import Trouble
 
 ADDRESS = re.compile(r"[0-9a-f]{16}")
@@ -53,16 +54,20 @@ def read_list(path: Path, content: bytes, password: Callable[[], str]) -> list[R
     return kem.read_kem(path, content, password)
 
 
-def take_list(config: Config, database: sqlite3.Connection, path: Path, rows: Sequence[Row], wish: Wish) -> tuple[int, int]:
-    """Adds the meters of a list, all of them or none; how many are new, and how many are left since they weren't heard yet."""
+def take_list(config: Config, database: sqlite3.Connection, path: Path, rows: Sequence[Row], wish: Wish) -> tuple[int, int, int]:
+    """Adds the meters of a list, all of them or none; how many are new, how many are known with another key, and how many are left since
+    they weren't heard yet."""
     addresses = Addresses(words_of(config.programs.meter_name), database)
     meters, unheard = meters_of(path, rows, addresses, wish)
+    blocks = database.execute("select address, block from meter where address in (select value from json_each(?))",
+                              (json.dumps(list(meters)),))
+    others = sum(block.split(" ")[KEY_PLACE] != meters[address][0].split(" ")[KEY_PLACE] for address, block in blocks)
     text = f"wmbus-roster 2\nown {wish.own}\n" + "".join(f"{line}\n" for line, _ in meters.values())
     added = take_roster(config, database, text, path)
     with store.transaction(database):
         database.executemany("update meter set name = ? where address = ? and name = ''",
                              [(name, address) for address, (_, name) in meters.items()])
-    return added, unheard
+    return added, others, unheard
 
 
 def meters_of(path: Path, rows: Sequence[Row], addresses: Addresses, wish: Wish) -> tuple[dict[str, tuple[str, str]], int]:

@@ -3,16 +3,13 @@ from __future__ import annotations
 
 import heapq
 import re
-import subprocess
 from collections import Counter
 from collections.abc import Iterator, Sequence
 
 from .memory_files import memory_files, path_of
 from .spool import Spooled
-from .steps import ProgramFailed
-from .trouble import Trouble
+from .steps import ProgramFailed, output_of
 
-PATIENCE = 60
 MOMENTS = 1 << 64
 # a line of a frame (docs/FORMATS.md, "Lines of a receiver"); a carriage return in front of its newline isn't of it
 FRAME = re.compile(r"[AB] (0|[1-9][0-9]{0,19}) (?:[0-9a-fA-F]{2})*")
@@ -65,15 +62,8 @@ def _order_of_program(inputs: Sequence[Sequence[Spooled]], program: Sequence[str
     """Whose line is next, as `line_merge --numbered` prints it."""
     texts = ["".join(f"{line.text}\n" for line in lines).encode("latin-1") for lines in inputs]
     with memory_files(texts) as opened:
-        words = [*program, "--numbered", *(path_of(number) for number in opened)]
-        try:
-            done = subprocess.run(words, stdin=subprocess.DEVNULL, capture_output=True, pass_fds=opened, timeout=PATIENCE, check=False)
-        except subprocess.TimeoutExpired:
-            raise ProgramFailed(None, "line_merge gave no answer") from None
-        except OSError as fault:
-            raise Trouble(words[0], f"the program can't be started: {fault.strerror}",
-                          "name it in the configuration under [programs]") from None
-    told = [line.split(b" ", 1)[0] for line in done.stdout.split(b"\n") if line]
-    if done.returncode or Counter(told) != {b"%d" % number: len(lines) for number, lines in enumerate(inputs, 1)}:
-        raise ProgramFailed(done.returncode, done.stderr.decode("utf-8", "replace") or "what it printed isn't an order of all lines")
+        output = output_of([*program, "--numbered", *(path_of(number) for number in opened)], (), opened)
+    told = [line.split(b" ", 1)[0] for line in output.split(b"\n") if line]
+    if Counter(told) != {b"%d" % number: len(lines) for number, lines in enumerate(inputs, 1)}:
+        raise ProgramFailed(0, "what it printed isn't an order of all lines")
     return [int(number) - 1 for number in told]

@@ -13,10 +13,12 @@ from .trouble import Trouble
 
 log = logging.getLogger("wmbus")
 
-OTHER_PLACE, DOWN_PLACE = 4, 6
+KEY_PLACE, OTHER_PLACE, DOWN_PLACE = 3, 4, 6
 MOST_NAME = 80
 # a roster that the program judges has so many meters at most
 PIECE = 4096
+# how a state begins, which the program takes in the place of a roster
+STATE = "wmbus-state 1"
 
 
 def count(database: sqlite3.Connection) -> int:
@@ -25,11 +27,22 @@ def count(database: sqlite3.Connection) -> int:
     return int(number)
 
 
-def set_own(database: sqlite3.Connection, own: str, place: object) -> None:
-    """The collector's own address, which stays what it is: meters know it by their downlinks."""
+def judge_known(database: sqlite3.Connection, address: str, place: object) -> None:
+    """A meter that isn't known."""
+    if not database.execute("select 1 from meter where address = ?", (address,)).fetchone():
+        raise Trouble(place, f"there is no meter {address}", "`wmbus-service status` lists the meters")
+
+
+def judge_own(database: sqlite3.Connection, own: str, place: object) -> None:
+    """The collector's own address stays what it is: meters know it by their downlinks."""
     known = store.setting(database, "own")
     if known is not None and known != own:
         raise Trouble(place, f"the collector's own address is {own}, and the database has {known}", "write that of the database there")
+
+
+def set_own(database: sqlite3.Connection, own: str, place: object) -> None:
+    """The collector's own address."""
+    judge_own(database, own, place)
     store.set_setting(database, "own", own)
 
 
@@ -54,15 +67,20 @@ def fields_of(line: str) -> list[str]:
     return fields if len(fields) == 8 else [*fields[:OTHER_PLACE], "-", *fields[OTHER_PLACE:]]
 
 
+def lines_of(text: str) -> list[str]:
+    """The lines of a roster but those that are passed over."""
+    return [line for line in (it.removesuffix("\r") for it in text.split("\n")) if line and not line.startswith("#")]
+
+
 def meters_in(text: str) -> tuple[str, list[list[str]]]:
     """The own address and the fields of each meter's line of a roster that the program takes."""
-    told = [line for line in (it.removesuffix("\r") for it in text.split("\n")) if line and not line.startswith("#")]
+    told = lines_of(text)
     return told[1].split(" ")[1].lower(), [fields_of(line) for line in told[2:]]
 
 
 def pieces_of(text: str) -> Iterator[str]:
     """A roster of any number of meters as rosters that the program judges, of which the first one has all where they aren't too many."""
-    lines = [line for line in (it.removesuffix("\r") for it in text.split("\n")) if line and not line.startswith("#")]
+    lines = lines_of(text)
     if len(lines) <= PIECE + 2:
         yield text
         return
@@ -72,6 +90,9 @@ def pieces_of(text: str) -> Iterator[str]:
 
 def judge_roster(program: Sequence[str], text: str, place: object) -> None:
     """Has the program judge a roster; it names the first faulty line."""
+    if lines_of(text)[:1] == [STATE]:
+        raise Trouble(place, "it is a state, and no roster",
+                      "name a file of `wmbus-roster 2` and, below it, the state's lines `own` and `meter` alone")
     try:
         run_steps(program, text, [])
     except UnicodeEncodeError:
@@ -91,14 +112,16 @@ def read_roster(path: Path) -> str:
         raise Trouble(path, f"the roster can't be read: {fault.strerror}", "name it in the configuration as `roster`") from None
 
 
-def take_roster(config: Config, database: sqlite3.Connection, text: str, place: object) -> int:
-    """Adds a roster's new meters; what is known of the others stays. How many are new."""
+def take_roster(config: Config, database: sqlite3.Connection, text: str, place: object, name: str = "") -> int:
+    """Adds a roster's new meters, where it is of a single one with its name; what is known of the others stays. How many are new."""
     for piece in pieces_of(text):
         judge_roster(words_of(config.programs.steps), piece, place)
     own, told = meters_in(text)
     with store.transaction(database):
         set_own(database, own, place)
-        added = sum(add_meter(database, fields) for fields in told)
+        added = [fields[1].lower() for fields in told if add_meter(database, fields, name)]
+        if own in added:
+            raise Trouble(place, f"the collector's own address {own} is that of a meter", "name one that no meter has")
     if added:
-        log.info("%d new meters of %s", added, place)
-    return added
+        log.info("%d new meters of %s", len(added), place)
+    return len(added)

@@ -1,12 +1,16 @@
 """Metrics in Prometheus' text format, over HTTP on this machine."""
 from __future__ import annotations
 
+import socket
 import sqlite3
+import threading
 import time
 from collections.abc import Iterator
+from contextlib import suppress
 from typing import TYPE_CHECKING
+from wsgiref.simple_server import WSGIRequestHandler, WSGIServer, make_server
 
-from prometheus_client import CollectorRegistry, start_http_server
+from prometheus_client import CollectorRegistry, make_wsgi_app
 from prometheus_client.core import CounterMetricFamily, GaugeMetricFamily, Metric
 from prometheus_client.registry import Collector
 
@@ -17,6 +21,8 @@ from .trouble import Trouble
 if TYPE_CHECKING:
     from .service import Service
 
+# so long who connects has to say what is asked for
+SILENCE = 5.0
 COUNTERS = {
     "lines": "lines of receivers that were heard",
     "orders": "lines for commands, keys and ticks",
@@ -63,17 +69,36 @@ class Figures(Collector):
         for name, (words, query) in GAUGES.items():
             yield GaugeMetricFamily(f"wmbus_{name}", words, value=database.execute(query).fetchone()[0])
         yield GaugeMetricFamily("wmbus_session_age_seconds", "since the service last looked for lines",
-                                value=time.time() - self.service.session_made)
+                                value=time.monotonic() - self.service.session_made)
         yield GaugeMetricFamily("wmbus_trouble", "1 where sessions stand still, and the log says why",
                                 value=float(bool(self.service.trouble)))
 
 
+class Asked(WSGIRequestHandler):
+    """What is asked over a connection, which ends where that doesn't come in time; nothing of it is logged."""
+
+    timeout = SILENCE
+
+    def handle(self) -> None:
+        """Reads, and answers."""
+        with suppress(OSError):
+            super().handle()
+
+    def log_message(self, format: str, *args: object) -> None:
+        """Nothing."""
+
+
 def serve(config: Config, told: Metrics, service: Service) -> None:
-    """Shows the metrics."""
+    """Shows the metrics, one connection after the other: each of many silent ones would hold a thread and an open file of the service."""
     registry = CollectorRegistry()
     registry.register(Figures(config, service))
+
+    class Server(WSGIServer):
+        """A server at an address of any family."""
     try:
-        start_http_server(told.port, addr=told.host, registry=registry)
+        Server.address_family = socket.getaddrinfo(told.host, told.port, type=socket.SOCK_STREAM)[0][0]
+        server = make_server(told.host, told.port, make_wsgi_app(registry), Server, Asked)
+        threading.Thread(target=server.serve_forever, name="metrics", daemon=True).start()
     except (OSError, OverflowError, UnicodeError) as fault:
         raise Trouble(f"metrics {told.host}:{told.port}", f"they can't be served: {fault}",
                       "name another host or port under [metrics]") from None

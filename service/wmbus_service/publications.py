@@ -63,9 +63,10 @@ class Publications:
 
 
 def announce_anew(mqtt: Mqtt, database: sqlite3.Connection) -> None:
-    """Where topics aren't those of the last start sensors are told of once more: those of before look where nothing comes any more."""
+    """Where the broker or the topics aren't those of the last start sensors are told of once more: another broker knows none, and those of
+    other topics look where nothing comes any more."""
     with transaction(database):
-        told = json.dumps([mqtt.topic, mqtt.discovery])
+        told = json.dumps([mqtt.host, mqtt.port, mqtt.topic, mqtt.discovery])
         if setting(database, "topics") != told:
             database.execute("delete from announced")
             set_setting(database, "topics", told)

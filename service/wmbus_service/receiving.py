@@ -13,11 +13,10 @@ import subprocess
 import time
 from contextlib import suppress
 from pathlib import Path
-from types import FrameType
 
 from .config import Config, Receiver, words_of
 from .ending import Ending
-from .spool import size_of, sync
+from .spool import size_of, sync_names
 from .store import prepare_folder
 from .trouble import Trouble
 
@@ -61,9 +60,7 @@ def new_file(spool: Path, name: str) -> int:
     path = spool / f"{name}.{max(numbers, default=0) + 1:08d}.{time.time_ns()}.lines"
     opened = os.open(path, os.O_WRONLY | os.O_CREAT | os.O_EXCL | os.O_APPEND | os.O_CLOEXEC, 0o600)
     fcntl.flock(opened, fcntl.LOCK_EX | fcntl.LOCK_NB)
-    folder = os.open(spool, os.O_RDONLY)
-    sync(folder)
-    os.close(folder)
+    sync_names(spool)
     return opened
 
 
@@ -82,14 +79,9 @@ class Receiving:
         self.ending = Ending()
 
     def run(self) -> None:
-        """Feeds the spool until it gets SIGTERM or SIGINT."""
-        def end(_number: int, _frame: FrameType | None) -> None:
-            # (who waits for the feed's end sees it then, and cleans up)
-            self.ending.set()
-            self._signal(signal.SIGTERM)
-
-        for number in (signal.SIGTERM, signal.SIGINT):
-            signal.signal(number, end)
+        """Feeds the spool until it gets SIGTERM or SIGINT, or the terminal is closed at which somebody tries it."""
+        # (who waits for the feed's end sees it then, and cleans up)
+        self.ending.heed_signals(lambda: self._signal(signal.SIGTERM))
         prepare_folder(self.config.folder)
         was_full = False
         while not self.ending.is_set():

@@ -3,12 +3,13 @@ entity")."""
 from __future__ import annotations
 
 import re
+from contextlib import suppress
 from dataclasses import dataclass
+from datetime import date
 from decimal import Decimal
 from typing import Any
 
 NUMBER = re.compile(r"-?[0-9]+")
-DAY = re.compile(r"[0-9]{4}-[0-9]{2}-[0-9]{2}")
 # (in summer time with a + behind it)
 MOMENT = re.compile(r"[0-9]{4}-[0-9]{2}-[0-9]{2}T[0-9]{2}:[0-9]{2}\+?")
 MEASUREMENT, TOTAL = "measurement", "total_increasing"
@@ -64,9 +65,15 @@ def shown(record: dict[str, Any], kind: Kind) -> str | None:
     if NUMBER.fullmatch(value):
         exponent = record["exponent"] + kind.power
         return f"{Decimal(f'{value}E{exponent}'):f}"
-    if (DAY if record["quantity"] == "date" else MOMENT).fullmatch(value) and kind.state is None:
-        return f'"{value}"'
-    return None
+    is_told = is_day(value) if record["quantity"] == "date" else MOMENT.fullmatch(value)
+    return f'"{value}"' if is_told and kind.state is None else None
+
+
+def is_day(text: str) -> bool:
+    """Whether a text is a day that there is: a meter may send the 31st of February."""
+    with suppress(ValueError):
+        return date.fromisoformat(text).isoformat() == text
+    return False
 
 
 def name_of(record: dict[str, Any]) -> str:

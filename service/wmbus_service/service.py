@@ -7,6 +7,7 @@ import os
 import socket
 import sqlite3
 import time
+from contextlib import suppress
 from pathlib import Path
 
 from . import meters, retention, store
@@ -24,6 +25,8 @@ log = logging.getLogger("wmbus")
 # after trouble it is tried again, less and less often
 LEAST_PAUSE, MOST_PAUSE = 1.0, 60.0
 LOCK_TRIES, LOCK_PAUSE = 5, 0.1
+# so much of its time a session leaves to others who write, where the next one follows at once; SQLite tries again each tenth of a second
+LEFT, MOST_LEFT = 0.05, 0.11
 # so often it is told that it lives where nobody says how often
 ALIVE = 60.0
 # so often it is looked for what is kept no longer
@@ -49,8 +52,11 @@ def lock(folder: Path) -> int:
 
 
 def is_locked(folder: Path) -> bool:
-    """Whether a service works on a folder."""
-    opened = os.open(folder / "lock", os.O_RDWR | os.O_CREAT | os.O_CLOEXEC, 0o600)
+    """Whether a service works on a folder, also on one that can't be written any more."""
+    try:
+        opened = os.open(folder / "lock", os.O_RDONLY | os.O_CLOEXEC)
+    except FileNotFoundError:
+        return False
     try:
         fcntl.flock(opened, fcntl.LOCK_SH | fcntl.LOCK_NB)
     except BlockingIOError:
@@ -61,10 +67,10 @@ def is_locked(folder: Path) -> bool:
 
 
 def notify(text: str) -> None:
-    """Tells systemd, where it asked for it."""
+    """Tells systemd, where it asked for it and hears it."""
     path = os.environ.get("NOTIFY_SOCKET")
     if path:
-        with socket.socket(socket.AF_UNIX, socket.SOCK_DGRAM) as told:
+        with socket.socket(socket.AF_UNIX, socket.SOCK_DGRAM) as told, suppress(OSError):
             told.sendto(text.encode(), f"\0{path[1:]}" if path.startswith("@") else path)
 
 
@@ -81,7 +87,8 @@ class Service:
         self.config, self.database = config, database
         self.sessions = Sessions(config, database)
         self.ending = Ending()
-        self.session_made = time.time()
+        # (by the clock that nobody sets)
+        self.session_made = time.monotonic()
         self.trouble = ""
         self.let_go_at = 0.0
 
@@ -90,11 +97,12 @@ class Service:
         pause, watch = LEAST_PAUSE, Watch(self.config.spool)
         while not self.ending.is_set():
             watch.forget()
-            watched = None
+            watched, began = None, time.monotonic()
             try:
                 count = self.turn()
                 pause, self.trouble = LEAST_PAUSE, ""
-                wait = 0.0 if count >= MOST // 2 or count >= self.sessions.most else self.config.interval
+                left = min(LEFT * (time.monotonic() - began), MOST_LEFT)
+                wait = left if count >= MOST // 2 or count >= self.sessions.most else self.config.interval
                 # (behind a session the next one waits for the interval, so that lines that come one by one are heard together)
                 watched = None if count else watch.opened
             except (Trouble, OSError, sqlite3.Error) as fault:
@@ -117,7 +125,7 @@ class Service:
         send_downlinks(self.config, self.database, time.time())
         count = self.sessions.next(time.time())
         send_downlinks(self.config, self.database, time.time())
-        self.session_made = time.time()
+        self.session_made = time.monotonic()
         self._let_go(1 + count // retention.PIECE)
         return count
 

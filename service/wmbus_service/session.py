@@ -95,11 +95,14 @@ class Sessions:
             log.error("the program failed over %d lines, and nothing of it counts: %s", len(batch), failed)
             self.most = len(batch) // 2
             return len(batch)
-        if failed.is_ended() or batch[0] != self.suspect:
-            # (what a machine lacks for a moment, as memory or time, is no line's fault)
-            self.suspect = None if failed.is_ended() else batch[0]
+        if failed.is_ended():
+            # (what a machine lacks, as memory, is no line's fault)
+            raise Trouble(self.config.programs.steps, f"the program was ended from outside: {failed}",
+                          "look at the machine's memory; the lines stay in the spool, and are heard again") from None
+        if batch[0] != self.suspect:
+            self.suspect = batch[0]
             log.warning("the program failed over a line, which is heard again: %s", failed)
-            return int(not failed.is_ended())
+            return 1
         self._look_without_lines(batch)
         with store.transaction(self.database):
             set_aside(self.config, self.database, batch[0], str(failed), now)

@@ -74,25 +74,24 @@ class Spool:
         """A place is never committed beyond what stands on the disk."""
         sync(opened)
         if path.name not in self.synced:
-            folder = os.open(self.folder, os.O_RDONLY)
-            try:
-                sync(folder)
-            finally:
-                os.close(folder)
+            sync_names(self.folder)
             self.synced.add(path.name)
 
     def clear(self, database: sqlite3.Connection) -> None:
         """Takes away files that are taken to their end and that nothing writes any more; the newest stays, so that numbers rise."""
         files = self.files()
         for path in files[:-1]:
-            if is_finished(path, place_of(database, self.receiver, path.name)):
-                path.unlink()
+            # (a receiver takes its own file away where it heard nothing)
+            with suppress(FileNotFoundError):
+                if is_finished(path, place_of(database, self.receiver, path.name)):
+                    path.unlink()
         names = {path.name for path in files}
         self.synced &= names
-        # (a place is forgotten one round after its file went, so that no file comes back behind it)
-        for (name,) in database.execute("select file from source where receiver = ?", (self.receiver,)).fetchall():
-            if name not in names:
-                database.execute("delete from source where receiver = ? and file = ?", (self.receiver, name))
+        told = database.execute("select file from source where receiver = ?", (self.receiver,)).fetchall()
+        if gone := [(self.receiver, name) for (name,) in told if name not in names]:
+            # (a place is forgotten once it stands on the disk that its file went, so that no file comes back behind it)
+            sync_names(self.folder)
+            database.executemany("delete from source where receiver = ? and file = ?", gone)
 
 
 def size_of(path: Path) -> int:
@@ -106,6 +105,15 @@ def size_of(path: Path) -> int:
 def sync(opened: int) -> None:
     """Has a file stand on the disk."""
     os.fsync(opened)
+
+
+def sync_names(folder: Path) -> None:
+    """Has the names in a folder stand on the disk."""
+    opened = os.open(folder, os.O_RDONLY)
+    try:
+        sync(opened)
+    finally:
+        os.close(opened)
 
 
 def place_of(database: sqlite3.Connection, receiver: str, file: str) -> int:

@@ -16,6 +16,8 @@ from .sensors import NUMBER
 from .spool import size_of
 
 LAST = 10
+# (looked for in the index alone, since a meter has many)
+LAST_READING = f"select id, {HEARD}, counter from reading where id = (select max(id) from reading where address = ?)"
 
 
 def figures(config: Config, database: sqlite3.Connection) -> dict[str, Any]:
@@ -49,7 +51,7 @@ def _rows(database: sqlite3.Connection, query: str) -> list[dict[str, Any]]:
 def meter(database: sqlite3.Connection, row: tuple[Any, ...], now: float) -> dict[str, Any]:
     """A meter and its last reading."""
     told = dict(zip(("address", "name", "waits", "holds", "receiver"), row, strict=True))
-    last = database.execute(f"select id, {HEARD}, counter from reading where address = ? order by id desc limit 1", (row[0],)).fetchone()
+    last = database.execute(LAST_READING, (row[0],)).fetchone()
     if last is None:
         return told | {"age": None, "counter": None, "values": []}
     return told | {"age": round(now - last[1]), "counter": last[2], "values": values_of(database, last[0])}
@@ -88,7 +90,7 @@ def in_words(told: dict[str, Any]) -> Iterator[str]:
     for it in told["commands"]:
         yield f"command {it['id']} for {it['address']}: {it['state']}, sent {it['tries']} times"
     for it in told["downlinks_missed"]:
-        yield f"downlink {it['down']} for {it['address']} wasn't sent: {it['missed']}"
+        yield f"downlink {it['down']} for {it['address']} wasn't sent by receiver {it['receiver'] or '(none)'}: {it['missed']}"
     for it in told["refusals"]:
         yield f"refused {it['times']} times for {it['address']}: {it['words']} (docs/FORMATS.md says what to do)"
     for it in told["strangers"]:
@@ -106,4 +108,4 @@ def status(config: Config, is_json: bool) -> str:
         told = figures(config, database)
     finally:
         database.close()
-    return json.dumps(told, ensure_ascii=False, indent=1) if is_json else "\n".join(in_words(told))
+    return json.dumps(told, indent=1) if is_json else "\n".join(in_words(told))

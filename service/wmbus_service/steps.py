@@ -67,8 +67,9 @@ def run_steps(program: Sequence[str], state: str, lines: Sequence[str]) -> Told:
 def output_of(words: Sequence[str], lines: Iterable[str], opened: Sequence[int] = ()) -> bytes:
     """What a program prints over lines, which has to end with status 0; it gets these open files."""
     try:
+        # (Ctrl-C at a terminal is for the service alone, which commits what the program says)
         done = subprocess.run(words, input="".join(f"{line}\n" for line in lines).encode("latin-1"), capture_output=True,
-                              pass_fds=opened, timeout=PATIENCE, check=False)
+                              pass_fds=opened, timeout=PATIENCE, check=False, start_new_session=True)
     except subprocess.TimeoutExpired:
         raise ProgramFailed(None, f"no answer within {PATIENCE} seconds") from None
     except OSError as fault:

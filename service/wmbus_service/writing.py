@@ -118,15 +118,15 @@ class Writing:
 
     def _queued(self, event: Event, said: dict[str, Any], number: int) -> None:
         """A command has its number; one that stands among a receiver's lines gets a row."""
+        ident = event.command or f"line {number}"
         if event.command is None:
             payload = event.text.split(" ")[2].strip().lower()
             self.database.execute("insert into command (id, address, kind, payload, state, number, made, changed)"
                                   " values (?, ?, 'send', ?, 'queued', ?, ?, ?)",
-                                  (f"line {number}", said["address"], payload, said["id"], self.now, self.now))
-            return
-        self.database.execute("update command set state = 'queued', number = ?, changed = ? where id = ?",
-                              (said["id"], self.now, event.command))
-        self.publications.command(event.command)
+                                  (ident, said["address"], payload, said["id"], self.now, self.now))
+        else:
+            self.database.execute("update command set state = 'queued', number = ?, changed = ? where id = ?", (said["id"], self.now, ident))
+        self.publications.command(ident)
 
     def _cancelled(self, event: Event, said: dict[str, Any], number: int) -> None:
         """A command isn't sent any more."""
