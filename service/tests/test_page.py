@@ -26,6 +26,8 @@ from .test_sessions import NOW, house_fixture  # noqa: F401
 
 # NOW is the 15th of January 2027, 08:00 in UTC
 BERLIN = "CET-1CEST,M3.5.0,M10.5.0/3"
+# there the last hour of a day comes twice in October, since the clocks are set back at midnight
+BEIRUT = "EET-2EEST,M3.5.0/0,M10.5.0/0"
 
 
 def test_overview(page: PageHouse) -> None:
@@ -373,6 +375,11 @@ def test_csv_of_days_of_other_lengths(page: PageHouse, monkeypatch: pytest.Monke
         given = page.client().get(f"/meters/{address}/readings.csv?from={day}&to={day}").text
         return [row[5] for row in csv.reader(io.StringIO(given))][1:]
     assert (values("2026-03-29"), values("2026-10-25"), values("2026-10-26")) == (["0.001"], ["0.002"], ["0.003"])
+    zoned(monkeypatch, BEIRUT)
+    # 23:30 in Beirut on the 24th of October, the same an hour later, and 00:30 on the 25th, of 2026
+    for litres, moment in ((11, 1792873800), (12, 1792877400), (13, 1792881000)):
+        page.volume(address, moment, litres)
+    assert (values("2026-10-24"), values("2026-10-25")[0]) == (["0.011", "0.012"], "0.013")
 
 
 def test_commands_given_up_among_many(page: PageHouse) -> None:
