@@ -42,6 +42,8 @@ HEADERS = {
     "Cross-Origin-Resource-Policy": "same-origin",
 }
 MOST_BYTES = 1 << 16
+# so many bytes a server takes of a request's head at most, and of its body; the page itself takes fewer, and says so in words
+MOST_HEAD, MOST_BODY = 1 << 16, 1 << 20
 # after so long the token is asked for again
 ENTERED_SECONDS = 12 * 3600
 LAST_MOMENT = (1 << 63) - 1

@@ -13,7 +13,7 @@ from ..config import Config, Page
 from ..ending import Ending
 from ..memory_files import leave_no_core
 from ..trouble import Trouble
-from .app import create_app, is_local as is_local
+from .app import MOST_BODY, MOST_HEAD, create_app, is_local as is_local
 
 log = logging.getLogger("wmbus")
 
@@ -113,7 +113,8 @@ def plain_server(app: object, page: Page) -> Any:
     """A server without TLS, which holds its port already."""
     import waitress
     try:
-        return waitress.create_server(app, host=page.host, port=page.port, threads=THREADS, ident=None)
+        return waitress.create_server(app, host=page.host, port=page.port, threads=THREADS, ident=None,
+                                      max_request_header_size=MOST_HEAD, max_request_body_size=MOST_BODY)
     except OSError as fault:
         raise _unserved(page, fault) from None
 
