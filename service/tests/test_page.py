@@ -397,13 +397,13 @@ def test_commands_given_up_among_many(page: PageHouse) -> None:
 def test_strangers_among_many(page: PageHouse) -> None:
     """A stranger that is heard often now is told of though others were heard more often before, and none is left out without a word."""
     query = "insert into stranger values (?, ?, 'attic', ?)"
-    for number in range(250):
+    for number in range(1250):
         page.write(query, f"4304{number:08d}0407", 5000, NOW - 30 * DAY)
     page.write(query, "2d2c785634121b16", 50, NOW - 60)
     looks = (page.client().get("/api/overview").json or {})["looks"]
     assert [look["link"] for look in looks if look["what"] == "heard 50 times"] == ["/strangers#2d2c785634121b16"]
     text = page.client().get("/strangers").text
-    assert "And 51 more" in text and 'id="2d2c785634121b16"' in text
+    assert "And 1051 more" in text and 'id="2d2c785634121b16"' in text
     told = (page.client().get("/api/strangers").json or {})["strangers"]
     assert len(told) == 251 and told[0]["address"] == "2d2c785634121b16"
 

@@ -28,6 +28,8 @@ PATIENCE = 2.0
 MOST_READINGS, MOST_VALUES = 200, 20_000
 # readings are looked through for the last value of overviews
 FEW_READINGS = 5
+# no store keeps more strangers
+KEPT_STRANGERS = 10_000
 # powers of ten by which a number is shown with all its digits
 MOST_POWER = 60
 FIRST_ALWAYS = "function = 'instantaneous' and storage = 0 and tariff = 0 and subunit = 0"
@@ -253,7 +255,7 @@ def refusals_of(database: Database, address: str) -> list[dict[str, Any]]:
                    (address,))
 
 
-def strangers(database: Database, most: int = 1000, since: float = 0) -> list[dict[str, Any]]:
+def strangers(database: Database, most: int = KEPT_STRANGERS, since: float = 0) -> list[dict[str, Any]]:
     """Meters that aren't known: those that were heard since a moment first, and of these those that were heard most."""
     found = rows_of(database, "select address, times, receiver, last_made from stranger where not exists"
                               " (select 1 from meter where meter.address = stranger.address)"
