@@ -20,7 +20,7 @@ import frames
 import messages
 from readings import service_tables
 from .kill import TOP
-from .page_house import DAY, HOUR, PageHouse, page_fixture, zoned  # noqa: F401
+from .page_house import DAY, HOUR, TOKEN, PageHouse, entered, page_fixture, zoned  # noqa: F401
 from .processes import run
 from .test_sessions import NOW, house_fixture  # noqa: F401
 
@@ -392,6 +392,19 @@ def test_commands_given_up_among_many(page: PageHouse) -> None:
         page.write(query, f"c{number}", second, "confirmed", NOW - DAY, NOW - DAY + number)
     told = [look["to_do"] for look in (page.client().get("/api/overview").json or {})["looks"] if look["what"] == "command given up"]
     assert len(told) == 1 and told[0].startswith("Command valve: ")
+
+
+def test_commands_of_a_meter_among_many(page: PageHouse) -> None:
+    """A command that waits for its meter stands on the page, and can be cancelled there, also where many came after it."""
+    address = page.addresses[0]
+    for number in range(70):
+        page.write("insert into command (id, address, kind, payload, state, made, changed) values (?, ?, 'send', '00', ?, ?, ?)",
+                   f"c{number}", address, "queued" if number == 3 else "confirmed", NOW - DAY + number, NOW - DAY + number)
+    client, _ = entered(page.page(TOKEN))
+    text = client.get(f"/meters/{address}").text
+    assert "Cancel c3" in text and "And 20 earlier ones." in text
+    told = client.get(f"/api/meters/{address}").json or {}
+    assert ([it["id"] for it in told["commands"]], told["commands_count"]) == (["c3", *(f"c{number}" for number in range(69, 20, -1))], 70)
 
 
 def test_strangers_among_many(page: PageHouse) -> None:

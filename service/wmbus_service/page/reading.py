@@ -242,11 +242,17 @@ def rows_of(database: Database, query: str, given: Sequence[object] = ()) -> lis
     return [dict(zip(names, row, strict=True)) for row in asked]
 
 
-def commands_of(database: Database, address: str | None = None, most: int = 50) -> list[dict[str, Any]]:
-    """A meter's commands, or all, the last ones first; those of new keys without the key."""
+def commands_of(database: Database, address: str, most: int = 50) -> list[dict[str, Any]]:
+    """A meter's commands, the open ones first, and of these and of the others the last ones; those of new keys without the key."""
     return rows_of(database, "select id, address, kind, case kind when 'send' then payload else '' end as payload, state, number, tries,"
-                             " reason, wish, made, changed from command where address = coalesce(?, address) order by rowid desc limit ?",
-                   (address, most))
+                             " reason, wish, made, changed from command where address = ?"
+                             " order by state in ('waiting', 'queued', 'sent') desc, rowid desc limit ?", (address, most))
+
+
+def count_commands(database: Database, address: str) -> int:
+    """How many commands a meter has."""
+    (count,) = database.execute("select count(*) from command where address = ?", (address,)).fetchone()
+    return int(count)
 
 
 def refusals_of(database: Database, address: str) -> list[dict[str, Any]]:
