@@ -284,6 +284,27 @@ def test_receivers(page: PageHouse) -> None:
     assert "67 %" in text and "heard nothing" in text and "not in the configuration" in text
 
 
+def test_receivers_and_a_wrong_clock(page: PageHouse) -> None:
+    """A receiver that fell silent is told of also where lines of it were written while the clock was a month ahead."""
+    query = "insert into line (receiver, text, made) values (?, 'A 1 00', ?)"
+    for name, made in [("attic", NOW - 3 * HOUR), *[("attic", NOW + 30 * DAY)] * 50, ("attic", NOW - 2 * HOUR)]:
+        page.write(query, name, made)
+    for number in range(60):
+        page.write(query, "roof", NOW - number)
+    told = (page.client().get("/api/receivers").json or {})["receivers"]
+    assert [(it["name"], it["per_minute"], it["heard"], [look["what"] for look in it["looks"]]) for it in told] == [
+        ("attic", 0.0, NOW - 2 * HOUR, ["silent for 2 hours"]), ("roof", 1.0, NOW, [])]
+
+
+def test_a_receiver_whose_lines_are_gone(page: PageHouse) -> None:
+    """One that heard something once, and none of whose lines is kept any more, is silent; it isn't said to have heard nothing ever."""
+    page.write("update meter set receiver = 'roof' where address = ?", page.addresses[0])
+    told = (page.client().get("/api/receivers").json or {})["receivers"]
+    assert [(it["name"], [look["what"] for look in it["looks"]]) for it in told] == [
+        ("attic", ["heard nothing"]), ("roof", ["silent for long"])]
+    assert page.client().get("/receivers").text.count("never") == 1
+
+
 def test_frames_of_both_formats() -> None:
     """What is whole, in formats A and B of all lengths; one bit that is other isn't."""
     for length in (*range(11, 60), 126, 129, 250):
