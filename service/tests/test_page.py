@@ -4,6 +4,7 @@ from __future__ import annotations
 import csv
 import html
 import io
+import json
 import os
 import re
 import sqlite3
@@ -15,6 +16,7 @@ import pytest
 from wmbus_service import exporting, retention, schema, sensors
 from wmbus_service.config import Keep
 from wmbus_service.page import radios, reading, views
+from wmbus_service.status import status
 
 import frames
 import messages
@@ -52,6 +54,9 @@ def test_overview(page: PageHouse) -> None:
     assert text.index("To look at") < text.index("All meters")
     for words in ("Cellar", "12.345 m³", "2 hours ago", "Get this meter&#39;s right key", "no memory", "2 of 3"):
         assert words in text
+    # (the line itself, which may be long, is told elsewhere)
+    assert "<code>wmbus-service status --json</code> shows the lines" in page.client().get("/receivers").text
+    assert [it["text"] for it in json.loads(status(page.house.config, True))["aside"]] == ["A 1 00"]
 
 
 def test_nothing_to_look_at(page: PageHouse, monkeypatch: pytest.MonkeyPatch) -> None:
