@@ -207,6 +207,31 @@ def test_registers_and_curves(page: PageHouse) -> None:
     assert 'role="img"' in text and "storage 1" in text
 
 
+def test_what_says_most(page: PageHouse) -> None:
+    """Beside a meter stands what says most of it, also where telegrams of two kinds take turns, as long as one of the last five has it."""
+    address = page.addresses[0]
+    page.read(address, NOW - HOUR, ("volume", "m3", -3, "1000"), ("energy", "Wh", 3, "120"))
+    page.read(address, NOW - HOUR + 1, ("flowtemperature", "C", -1, "713"), ("energy", "Wh", 3, "123"))
+    for number, wanted in enumerate(["123 kWh"] * 4 + ["20 °C"], 2):
+        page.read(address, NOW - HOUR + number, ("flowtemperature", "C", 0, "20"))
+        told = page.client().get("/api/meters").json or {}
+        assert (told["meters"][0]["main"]["text"], told["meters"][0]["counter"]) == (wanted, number + 1)
+
+
+def test_how_much_stands_there(page: PageHouse) -> None:
+    """Of many registers so many are drawn and counted as docs/PAGE.md says; what none of the last 200 readings has stands in the CSV."""
+    address = page.addresses[0]
+    kinds = (("energy", "Wh", 3), ("volume", "m3", -3), ("hca", "-", 0), ("mass", "kg", 0), ("power", "W", 0), ("flow", "m3/h", -3))
+    page.read(address, NOW - 3 * DAY, ("pressure", "bar", 0, "1"))
+    for first, last, registers in ((0, 199, 8), (199, 200, 7)):
+        for number in range(first, last):
+            page.read(address, NOW - DAY + 60 * number, *((*kind, str(number)) for kind in kinds),
+                      ("volume", "m3", -3, str(number), "instantaneous", 0, "3c"))
+        told = page.client().get(f"/api/meters/{address}").json or {}
+        assert (len(told["used"]), len(told["curves"]), len(told["values"])) == (4, 6, registers)
+    assert ",pressure," in page.client().get(f"/meters/{address}/readings.csv").text
+
+
 def test_registers_with_modifiers(page: PageHouse) -> None:
     """What modifiers make of a quantity is another one (docs/FORMATS.md): a volume, and what flowed backward, sent in front of it or alone."""
     address = page.addresses[0]

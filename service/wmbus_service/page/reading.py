@@ -28,6 +28,8 @@ PATIENCE = 2.0
 MOST_READINGS, MOST_VALUES = 200, 20_000
 # readings are looked through for the last value of overviews
 FEW_READINGS = 5
+# the rank of what says most of a meter: no other value says more
+MOST_SAID = (False, 0)
 # no store keeps more strangers
 KEPT_STRANGERS = 10_000
 # powers of ten by which a number is shown with all its digits
@@ -170,19 +172,20 @@ def _last_readings(database: Database, address: str, now: float, most: int) -> L
     return found
 
 
-def _main_value(database: Database, readings: list[tuple[int, int, float, int]], now: float) -> Value | None:
-    """Of a meter's last values the one that says most."""
-    other = None
+def _main_value(database: Database, readings: Last, now: float) -> Value | None:
+    """Of the values of a meter's last readings the one that says most, as the last of these has it."""
+    best: Value | None = None
     for ident, moment, made, _ in readings:
         rows = database.execute(f"select quantity, unit, modifiers, exponent, value, raw from record where reading = ? and {FIRST_ALWAYS}"
                                 " order by place limit 100", (ident,))
         found = [Value(Register(quantity, unit, modifiers=modifiers), exact(value, exponent), raw, heard_at(moment, made, now))
                  for quantity, unit, modifiers, exponent, value, raw in rows if quantity not in NAMES and NUMBER.fullmatch(value)]
-        best = min(found, key=lambda it: it.rank, default=None)
-        if best is not None and best.register.is_main():
-            return best
-        other = other or best
-    return other
+        first = min(found, key=lambda it: it.rank, default=None)
+        if first is not None and (best is None or first.rank < best.rank):
+            best = first
+        if best is not None and best.rank == MOST_SAID:
+            break
+    return best
 
 
 def last_values(database: Database, address: str, now: float) -> list[Value]:
