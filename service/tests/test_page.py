@@ -469,7 +469,7 @@ def test_strangers_among_many(page: PageHouse) -> None:
     text = page.client().get("/strangers").text
     assert "And 1051 more" in text and 'id="2d2c785634121b16"' in text
     told = (page.client().get("/api/strangers").json or {})["strangers"]
-    assert len(told) == 251 and told[0]["address"] == "2d2c785634121b16"
+    assert len(told) == 1251 and told[0]["address"] == "2d2c785634121b16"
 
 
 def test_all_digits(page: PageHouse) -> None:
@@ -558,6 +558,15 @@ def test_no_code_of_a_meter_is_shown(page: PageHouse, tmp_path: Path) -> None:
     shown = [page.client().get(path).text for path in (f"/meters/{address}", f"/api/meters/{address}")]
     for text in (*shown, file.read_text()):
         assert "unknown" in text and "00ff" not in text
+
+
+def test_texts_of_a_meter(page: PageHouse, tmp_path: Path) -> None:
+    """Of a text, which the service stores as its bytes, what was sent stands on the page, and not the word for it alone."""
+    page.read(page.addresses[0], NOW - 60, ("fabrication", "-", 0, "text"))
+    file = tmp_path / "page.html"
+    run([f"{TOP}/bin/report_page", "--now", str(int(NOW)), str(page.house.config.database), str(file)])
+    for text in (page.client().get(f"/meters/{page.addresses[0]}").text, file.read_text()):
+        assert "text 00ff" in text and "“text”" not in text
 
 
 def test_page_as_a_file(page: PageHouse, tmp_path: Path) -> None:
