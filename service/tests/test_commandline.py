@@ -362,6 +362,7 @@ def test_configuration(place: Place) -> None:
         folder + "[receivers.Attic]\n": "receivers.Attic: a name has",
         folder + "[receivers.attic]\nprofile = 1\n": "receivers.attic.profile isn't a text",
         folder + "[mqtt]\nport = -1\n": "mqtt.port isn't a number",
+        folder + "[page]\nport = 99999\n": "page.port isn't a number from 0 to 65535",
         folder + "[ticks\n": "it is no TOML",
         folder + '[programs]\nsteps = "/opt/tim\'s/wmbus steps"\n': "programs.steps isn't a command",
         folder + '[programs]\nline_merge = "line\'merge"\n': "programs.line_merge isn't a command",
