@@ -414,6 +414,20 @@ def test_check_of_programs(place: Place) -> None:
         assert f"/nonexistent/{name}: there is no such program" in place.fault("check")
 
 
+@pytest.mark.parametrize("words, told", [
+    ("port = 9103", "right: page 127.0.0.1:9103"),
+    ('token_file = "/nonexistent/token"', "wrong: /nonexistent/token: the page's token can't be read"),
+    ('host = "0.0.0.0"', "wrong: page.host 0.0.0.0: others reach it there, and without TLS they read along"),
+    ('certificate = "/nonexistent/certificate"', "wrong: /nonexistent/certificate: TLS can't be begun"),
+])
+def test_check_of_the_page(place: Place, words: str, told: str) -> None:
+    """What keeps the page from being served is named, as docs/GUIDE.md says where the page doesn't come."""
+    if "certificate" in words:
+        pytest.importorskip("cheroot", reason="python3-cheroot isn't there")
+    place.config.write_text(f"{place.config.read_text()}[page]\n{words}\n")
+    assert told in place.run("check").output
+
+
 def test_check_of_a_large_roster(place: Place) -> None:
     """A roster of more meters than a session's state has is right, as it is for the service, which takes it in pieces."""
     roster = place.folder / "meters.roster"

@@ -35,6 +35,11 @@ names = {"localhost": ("127.0.0.1", "::1")}
 socket.getaddrinfo = lambda host, *more, **named: [it for name in names.get(host, (host,)) for it in found(name, *more, **named)]
 runpy.run_module("wmbus_service", run_name="__main__")
 """
+# the service on a machine that hasn't Debian's python3-flask
+WITHOUT_FLASK = """import runpy, sys
+sys.modules["flask"] = None
+runpy.run_module("wmbus_service", run_name="__main__")
+"""
 
 
 @dataclass(frozen=True)
@@ -117,6 +122,12 @@ def test_a_name_of_two_addresses(page: PageHouse) -> None:
                 assert "All meters" in given.read().decode()
         it.process.send_signal(signal.SIGTERM)
         assert it.ended() == 0, it.said()
+
+
+def test_without_its_packages(page: PageHouse) -> None:
+    """Where a package of Debian that it needs isn't there it is named."""
+    with served(page, "port = 0\n", ("-c", WITHOUT_FLASK)) as it:
+        assert it.ended() == 1 and "apt-get install python3-flask" in it.said() and "Traceback" not in it.said()
 
 
 def test_an_address_of_version_6(page: PageHouse) -> None:
