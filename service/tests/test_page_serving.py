@@ -11,6 +11,8 @@ import subprocess
 import sys
 import threading
 import time
+import urllib.error
+import urllib.parse
 import urllib.request
 from collections.abc import Iterator, Sequence
 from contextlib import ExitStack, contextmanager, suppress
@@ -21,7 +23,7 @@ from typing import Any
 import pytest
 from wmbus_service.page import serving
 
-from .page_house import TOKEN, PageHouse, page_fixture  # noqa: F401
+from .page_house import TOKEN, PageHouse, forms_word, page_fixture  # noqa: F401
 from .processes import PATIENCE, certificate_of, started, until
 from .test_sessions import house_fixture  # noqa: F401
 
@@ -102,6 +104,12 @@ def with_token(tmp_path: Path) -> str:
     return f'token_file = "{token}"\n'
 
 
+def free_port() -> int:
+    """A port that nobody has."""
+    with socket.create_server(("127.0.0.1", 0)) as free:
+        return int(free.getsockname()[1])
+
+
 def test_on_this_machine(page: PageHouse) -> None:
     """It is served, and ends with status 0."""
     with served(page, "port = 0\n") as it:
@@ -110,10 +118,32 @@ def test_on_this_machine(page: PageHouse) -> None:
         assert it.ended() == 0, it.said()
 
 
+def test_a_new_token(page: PageHouse, tmp_path: Path) -> None:
+    """A new token counts once the page is started anew; who entered by the one before has to enter again then."""
+    port, browser = free_port(), urllib.request.build_opener(urllib.request.HTTPCookieProcessor())
+
+    def asked(path: str, **fields: str) -> str:
+        data = urllib.parse.urlencode(fields).encode() if fields else None
+        with browser.open(f"http://127.0.0.1:{port}{path}", data, PATIENCE) as given:
+            return str(given.read().decode())
+
+    def is_entered(token: str = "") -> bool:
+        with suppress(urllib.error.HTTPError):
+            if token:
+                asked("/enter", forms=forms_word(asked("/enter")), token=token)
+        return "Leave" in asked("/")
+    words = f"port = {port}\n{with_token(tmp_path)}"
+    with served(page, words) as it:
+        assert it.port() == port and is_entered(TOKEN)
+        (tmp_path / "token").write_text(TOKEN[::-1])
+        assert is_entered()
+    with served(page, words) as it:
+        assert it.port() == port and not is_entered() and not is_entered(TOKEN) and is_entered(TOKEN[::-1])
+
+
 def test_a_name_of_two_addresses(page: PageHouse) -> None:
     """Under localhost it is served at both of its addresses, and says where."""
-    with socket.create_server(("127.0.0.1", 0)) as free:
-        port = free.getsockname()[1]
+    port = free_port()
     with served(page, f'host = "localhost"\nport = {port}\n', ("-c", TWO_ADDRESSES)) as it:
         until(lambda: "the page is at" in it.said() or it.process.poll() is not None)
         assert f"the page is at http://localhost:{port}/" in it.said(), it.said()
