@@ -9,6 +9,7 @@ import os
 import re
 import sqlite3
 import subprocess
+import tracemalloc
 from contextlib import closing, suppress
 from pathlib import Path
 
@@ -21,6 +22,7 @@ from wmbus_service.status import status
 import frames
 import messages
 from readings import service_tables
+from readings.used import hour_of
 from .kill import TOP
 from .page_house import DAY, HOUR, TOKEN, PageHouse, entered, page_fixture, zoned  # noqa: F401
 from .processes import run
@@ -99,6 +101,18 @@ def test_one_unit(page: PageHouse) -> None:
     told = page.client().get(f"/api/meters/{address}").json
     assert told
     assert {by: rows[0]["text"] for by, rows in told["used"][0]["by"].items()} == {"hour": "5 kWh", "day": "5 kWh", "month": "425 kWh"}
+
+
+def test_memory_of_moments() -> None:
+    """However long the page runs, and whatever it is asked for, what it remembers of moments takes no more than a small machine has."""
+    hour_of.cache_clear()
+    tracemalloc.start()
+    for moment in range(0, 60 * 200_000, 60):
+        hour_of(moment)
+    taken = tracemalloc.get_traced_memory()[0]
+    tracemalloc.stop()
+    hour_of.cache_clear()
+    assert taken < 32 << 20
 
 
 def test_hours_of_other_zones(page: PageHouse, monkeypatch: pytest.MonkeyPatch) -> None:
