@@ -587,7 +587,7 @@ def look_apart(page, *read):
 
 
 def keep_rights(part, there):
-    """Gives a file the owner and the rights of one that is there, as far as this user may: whom that one isn't for, neither is this one."""
+    """Gives an open file the owner and the rights of one that is there, as far as this user may: whom that one isn't for, neither is this one."""
     told = os.stat(there)
     for owner, group in ((told.st_uid, -1), (-1, told.st_gid)):
         with contextlib.suppress(PermissionError):
@@ -604,9 +604,9 @@ def write_whole(path, texts):
         return
     part = f"{path}.{os.getpid()}.part"
     try:
-        with open(part, "w", encoding="utf-8") as file:
+        with open(part, "x", encoding="utf-8") as file:
             if os.path.exists(path):
-                keep_rights(part, path)
+                keep_rights(file.fileno(), path)
             file.writelines(texts)
             # (else a power cut may leave the name with nothing behind it)
             file.flush()
