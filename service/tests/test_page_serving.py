@@ -15,6 +15,7 @@ import urllib.error
 import urllib.parse
 import urllib.request
 from collections.abc import Iterator, Sequence
+from concurrent.futures import ThreadPoolExecutor
 from contextlib import ExitStack, contextmanager, suppress
 from dataclasses import dataclass
 from pathlib import Path
@@ -116,6 +117,14 @@ def test_on_this_machine(page: PageHouse) -> None:
         assert "All meters" in fetched(it)
         it.process.send_signal(signal.SIGTERM)
         assert it.ended() == 0, it.said()
+
+
+def test_many_at_once(page: PageHouse) -> None:
+    """Many who look at it at once are all answered, and its log, in which its end has its reason, says nothing of them."""
+    with served(page, "port = 0\n") as it, ThreadPoolExecutor(6 * serving.THREADS) as browsers:
+        it.port()
+        told = list(browsers.map(lambda _: fetched(it), range(30 * serving.THREADS)))
+        assert all("All meters" in text for text in told) and len(it.said().splitlines()) == 1, it.said()
 
 
 def test_a_new_token(page: PageHouse, tmp_path: Path) -> None:

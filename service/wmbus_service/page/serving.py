@@ -112,6 +112,8 @@ def serve_until(ending: Ending, page: Page, serve: Callable[[], object], stop: C
 def plain_server(app: object, page: Page) -> Any:
     """A server without TLS, which holds its port already."""
     import waitress
+    # (that requests wait for a moment is no trouble)
+    logging.getLogger("waitress.queue").setLevel(logging.ERROR)
     try:
         return waitress.create_server(app, host=page.host, port=page.port, threads=THREADS, ident=None,
                                       max_request_header_size=MOST_HEAD, max_request_body_size=MOST_BODY)
