@@ -97,10 +97,11 @@ class Report:
     heard: dict = field(default_factory=dict)
 
 
-NUMBER, ADDRESS = r"(0|[1-9][0-9]*)", r"([0-9a-f]{16})"
+# (a moment alone may be greater than SQLite's numbers)
+NUMBER, MOMENT, ADDRESS = r"(0|[1-9][0-9]{0,17})", r"(0|[1-9][0-9]{0,19})", r"([0-9a-f]{16})"
 RECEIVER = re.compile(rf"receiver {NUMBER} lines {NUMBER} own {NUMBER} strangers {NUMBER} unframed {NUMBER} bad {NUMBER} ([a-z]+)")
 METER = re.compile(rf"meter {ADDRESS} (?:[A-Z]{{3}}|-) mode ([57]) last (-|{NUMBER}) down {NUMBER} steps {NUMBER} readings {NUMBER}")
-STORED = re.compile(rf"step {NUMBER} {NUMBER} stored {NUMBER} {NUMBER} (-|(?:[0-9a-f][0-9a-f])+)(?: confirmed {NUMBER})?(?: sent {NUMBER})?")
+STORED = re.compile(rf"step {NUMBER} {NUMBER} stored {NUMBER} {MOMENT} (-|(?:[0-9a-f][0-9a-f])+)(?: confirmed {NUMBER})?(?: sent {NUMBER})?")
 REFUSED = re.compile(rf"step {NUMBER} {NUMBER} refused ([a-z].*)")
 STEP = re.compile(rf"step {NUMBER} {NUMBER} (?:part|rekeyed|ticked(?: expired {NUMBER})?|(?:queued|cancelled) {NUMBER})")
 PENDING = re.compile(rf"pending {NUMBER} {NUMBER}")
@@ -123,6 +124,7 @@ class ReportReader:
         self.number = 0
         self.meter = None
         self.ended = False
+        self.told = set()
 
     def fail(self, words):
         raise Faulty(self.number, words)
@@ -151,6 +153,12 @@ class ReportReader:
             self.fail(f"the line isn't whole, or has something wrong in it: {line[:60]!r}")
         return found.groups()
 
+    def once(self, *what):
+        """What a report has one line of."""
+        if what in self.told:
+            self.fail("this line stands in the report twice")
+        self.told.add(what)
+
     def of_meter(self):
         if self.meter is None:
             self.fail("this line stands below no meter")
@@ -158,6 +166,7 @@ class ReportReader:
 
     def take_receiver(self, line):
         *numbers, ended = self.parts(RECEIVER, line)
+        self.once("receiver", numbers[0])
         self.report.receivers.append((*map(int, numbers), ended))
 
     def close_meter(self):
@@ -170,6 +179,7 @@ class ReportReader:
     def take_meter(self, line):
         self.close_meter()
         address, mode, last, _, down, steps, readings = self.parts(METER, line)
+        self.once("meter", address)
         self.meter = Meter(address, int(mode), None if last == "-" else int(last), int(down), int(steps), int(readings))
         self.report.meters.append(self.meter)
 
@@ -203,6 +213,7 @@ class ReportReader:
 
     def take_pending(self, line):
         command, tries = self.parts(PENDING, line)
+        self.once("pending", self.of_meter().address, command)
         self.of_meter().pending.append((int(command), int(tries)))
 
     def take_strangers(self, line):

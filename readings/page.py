@@ -5,7 +5,7 @@ usage: bin/report_page [--names NAMES] [--now MOMENT] DB OUT.html
 
 The page has each meter with its last values, when it was heard last, a curve for each quantity, what was used by day and month, why
 telegrams of it were refused, what commands wait, the receivers, and the strangers that were heard. OUT.html is written whole or not at all,
-and keeps its permissions where it was there.
+and keeps its owner and permissions where it was there, as far as this user may give them. What is no file, as a pipe, is written as it is.
 Silence is measured against the clock, or against MOMENT, seconds since 1970. Times are local: those of the machine's zone, or of TZ.
 
 NAMES is a text file with a line `ADDRESS NAME` for each meter that has a name: its sixteen digits, and what it is called, which the page shows first.
@@ -20,6 +20,7 @@ DB is a file of bin/keep_readings, or a copy of the service's database (`wmbus-s
 docs/FORMATS.md describes the tables of DB, and what each fault means."""
 from readings import quiet
 
+import contextlib
 import gc
 import os
 import re
@@ -541,8 +542,8 @@ def page_of(kept):
     yield f"</main>{tag('footer', SERVICE_FOOT if kept.is_of_service else FOOT, class_='soft small')}</body></html>\n"
 
 
-class NoNames(Exception):
-    """Where a file is no file of names, and why."""
+class Unfit(Exception):
+    """Where a file isn't fit for what it is named for, and why."""
 
     def __init__(self, place, words):
         super().__init__(f"{place}: {words}")
@@ -555,15 +556,15 @@ def read_names(path):
         with open(path, encoding="utf-8-sig") as file:
             lines = file.read().splitlines()
     except UnicodeDecodeError:
-        raise NoNames(path, "this is no text in UTF-8") from None
+        raise Unfit(path, "this is no text in UTF-8") from None
     for number, line in enumerate(lines, 1):
         place, (address, name) = f"{path} line {number}", (*line.split(maxsplit=1), "", "")[:2]
         if not address or address.startswith("#"):
             continue
         if not is_address(address.lower()) or not name.strip():
-            raise NoNames(place, "this is no address of sixteen digits with a name behind it")
+            raise Unfit(place, "this is no address of sixteen digits with a name behind it")
         if address.lower() in names:
-            raise NoNames(place, "this meter has a name above")
+            raise Unfit(place, "this meter has a name above")
         names[address.lower()] = name.strip()
     return names
 
@@ -578,15 +579,38 @@ def words_given(words):
     return int(given["--now"]), given["--names"], *words
 
 
+def look_apart(page, *read):
+    """What is read for the page mustn't be where it is written, since it would be gone."""
+    for file in read:
+        if file is not None and os.path.exists(page) and os.path.exists(file) and os.path.samefile(page, file):
+            raise Unfit(page, "it is read for the page, which would take its place")
+
+
+def keep_rights(part, there):
+    """Gives an open file the owner and the rights of one that is there, as far as this user may: whom that one isn't for, neither is this one."""
+    told = os.stat(there)
+    for owner, group in ((told.st_uid, -1), (-1, told.st_gid)):
+        with contextlib.suppress(PermissionError):
+            os.chown(part, owner, group)
+    of_group = 0o070 if os.stat(part).st_gid == told.st_gid else 0
+    os.chmod(part, told.st_mode & (0o707 | of_group))
+
+
 def write_whole(path, texts):
-    """Writes a file whole, or leaves what was there."""
+    """Writes a file whole, or leaves what was there. What is no file, as a pipe or /dev/stdout, isn't replaced by one."""
+    if os.path.exists(path) and not os.path.isfile(path):
+        with open(path, "w", encoding="utf-8") as file:
+            file.writelines(texts)
+        return
     part = f"{path}.{os.getpid()}.part"
     try:
-        with open(part, "w", encoding="utf-8") as file:
-            # (whom the page that was there isn't for, neither is this one)
+        with open(part, "x", encoding="utf-8") as file:
             if os.path.exists(path):
-                os.chmod(part, os.stat(path).st_mode & 0o777)
+                keep_rights(file.fileno(), path)
             file.writelines(texts)
+            # (else a power cut may leave the name with nothing behind it)
+            file.flush()
+            os.fsync(file.fileno())
         os.replace(part, path)
     except BaseException as fault:
         if os.path.exists(part):
@@ -606,6 +630,7 @@ def main():
         return 2
     now, names, path, page = given
     try:
+        look_apart(page, path, names)
         names = read_names(names) if names is not None else {}
         database = open_database(path, create=False)
         # all that is loaded is kept until the end, so looking for what can be let go would only take time
@@ -613,7 +638,7 @@ def main():
         database.execute("BEGIN")
         write_whole(page, page_of(Kept(database, now, names)))
         return 0
-    except (NoDatabase, NoNames, sqlite3.Error) as fault:
+    except (NoDatabase, Unfit, sqlite3.Error) as fault:
         print(f"report_page: {fault}", file=sys.stderr)
     except OSError as fault:
         print(f"report_page: {fault.filename or page}: {fault.strerror}", file=sys.stderr)

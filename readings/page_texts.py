@@ -298,6 +298,7 @@ def value_text(quantity, unit, value, prefix, raw=None):
     if re.match(r"[0-9]{4}-[0-9]{2}-[0-9]{2}", value):
         marks = (" (the meter calls it invalid)" if "!" in value else "") + (" (summer time)" if "+" in value else "")
         return value.rstrip("!+").replace("T", " ") + marks
-    if value == "raw":
+    # (of what isn't read, and of a text that the service stored, what was sent is told)
+    if value in ("raw", "text"):
         return f"{value} {raw}" if raw else value
     return "no value" if value == "-" else value

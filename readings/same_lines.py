@@ -7,6 +7,8 @@ import zlib
 
 # so many steps of two or more meters in the same lines are no chance
 SURE_STEPS = 16
+# a receiver's first step stands within so many bytes of its blob
+FIRST_BYTES = 1 << 10
 
 
 def packed(steps):
@@ -18,6 +20,18 @@ def unpacked(blob):
     """The words of each step by its line and address."""
     texts = (text.split(" ", 2) for text in zlib.decompress(blob).decode("ascii").split("\n"))
     return {f"{line} {address}": words for line, address, words in texts}
+
+
+def first_words(begun):
+    """The words of a receiver's first step, by what its blob begins with; none where that isn't enough."""
+    reader = zlib.decompressobj()
+    text, is_whole, _ = reader.decompress(begun, FIRST_BYTES).decode("ascii").partition("\n")
+    return text.split(" ", 2)[2] if is_whole or reader.eof else None
+
+
+def are_other(some, words):
+    """Whether the words of a step say of a line that another message was stored there."""
+    return words is not None and some.startswith("stored ") and words.startswith("stored ") and some != words
 
 
 def are_same(some, all_of):
@@ -53,11 +67,14 @@ def put_heard(database, number, heard):
 def find_same(database, number):
     """Finds the reports that a report covers, or one that covers it."""
     own = heard_of(database, number)
-    begins = ["\n" + text.partition("\n")[0] + "\n" for text, in database.execute("SELECT first FROM heard WHERE report = ?", (number,))]
+    begins = [text.partition("\n")[0] for text, in database.execute("SELECT first FROM heard WHERE report = ?", (number,))]
     near = set()
-    for report, text in database.execute("SELECT report, first FROM heard WHERE report <> ?", (number,)):
+    for report, text, begun in database.execute("SELECT report, first, substr(steps, 1, ?) FROM heard WHERE report <> ?", (FIRST_BYTES, number)):
         # only these can be of the same lines
-        if any(text.partition("\n")[0] in steps for steps in own) or any(begin in f"\n{text}\n" for begin in begins):
+        firsts = text.split("\n")
+        told = [steps[firsts[0]] for steps in own if firsts[0] in steps]
+        words = first_words(begun) if told else None
+        if not all(are_other(it, words) for it in told) or any(begin in firsts[1:] for begin in begins):
             near.add(report)
     for report in sorted(near):
         (earlier, some), (later, more) = sorted([(report, heard_of(database, report)), (number, own)], key=lambda it: it[0])

@@ -26,7 +26,7 @@ CREATE TEMP TABLE register AS
     FROM (SELECT DISTINCT quantity, unit, function, storage, tariff, subunit, modifiers FROM main.record);
 CREATE INDEX temp.register_key ON register (quantity, unit, function, storage, tariff, subunit, modifiers);
 CREATE TEMP VIEW record AS
-    SELECT reading, place, register.id AS register, exact(value, exponent) AS value, 0 AS unset, iif(value = 'text', 'text', 'number') AS type,
+    SELECT reading, place, register.id AS register, exact(value, exponent) AS value, 0 AS unset, 'number' AS type,
         -- (access codes, passwords and keys of a meter are among the unknown quantities)
         iif(quantity = 'unknown', '', raw) AS raw
     FROM main.record AS kept JOIN temp.register USING (quantity, unit, function, storage, tariff, subunit, modifiers);

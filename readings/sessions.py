@@ -22,8 +22,8 @@ FAULTY_FOLDER, IN_USE, STOPPED = 1, 9, 130
 # what may be read or written by others than a file's owner
 BY_OTHERS = 0o077
 RECEIVERS = 16
-# RECEIVER, or RECEIVER.ANYTHING; other names are passed over
-NAME = re.compile(r"[0-9A-Za-z_-]+(?:\.[0-9A-Za-z._-]+)?")
+# RECEIVER, or RECEIVER.ANYTHING; other names are passed over, and such as the number of a round makes longer than a file's may be
+NAME = re.compile(r"(?=.{1,200}$)[0-9A-Za-z_-]+(?:\.[0-9A-Za-z._-]+)?")
 STATUSES = (f"exit status: 0 no file is left to be heard, {FAULTY_FOLDER} the folder isn't as it has to be, 2 faulty words, "
             f"{IN_USE} another one works on the folder, {STOPPED} it was interrupted (0 with --every), else that of wmbus")
 

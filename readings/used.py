@@ -25,7 +25,8 @@ class Used:
         return (datetime.date(*self.first[:3]) - datetime.date(*hour_of(self.since)[:3])).days > 1
 
 
-@functools.lru_cache(maxsize=1 << 20)
+# (as many as a register has in a year where it is heard every ten minutes; a page that is served lives long)
+@functools.lru_cache(maxsize=1 << 16)
 def hour_of(moment):
     """The hour of a moment in this machine's zone: year, month, day and hour."""
     return tuple(time.localtime(moment)[:4])

@@ -481,6 +481,7 @@ def test_configuration(place: Place) -> None:
         folder + "[receivers.Attic]\n": "receivers.Attic: a name has",
         folder + "[receivers.attic]\nprofile = 1\n": "receivers.attic.profile isn't a text",
         folder + "[mqtt]\nport = -1\n": "mqtt.port isn't a number",
+        folder + "[page]\nport = 99999\n": "page.port isn't a number from 0 to 65535",
         folder + "[ticks\n": "it is no TOML",
         folder + '[programs]\nsteps = "/opt/tim\'s/wmbus steps"\n': "programs.steps isn't a command",
         folder + '[programs]\nline_merge = "line\'merge"\n': "programs.line_merge isn't a command",
@@ -548,6 +549,20 @@ def test_check_of_programs(place: Place) -> None:
         lines.insert(lines.index("[programs]") + 1, f'{name} = "/nonexistent/{name} -x"')
         place.config.write_text("\n".join(lines))
         assert f"/nonexistent/{name}: there is no such program" in place.fault("check")
+
+
+@pytest.mark.parametrize("words, told", [
+    ("port = 9103", "right: page 127.0.0.1:9103"),
+    ('token_file = "/nonexistent/token"', "wrong: /nonexistent/token: the page's token can't be read"),
+    ('host = "0.0.0.0"', "wrong: page.host 0.0.0.0: others reach it there, and without TLS they read along"),
+    ('certificate = "/nonexistent/certificate"', "wrong: /nonexistent/certificate: TLS can't be begun"),
+])
+def test_check_of_the_page(place: Place, words: str, told: str) -> None:
+    """What keeps the page from being served is named, as docs/GUIDE.md says where the page doesn't come."""
+    if "certificate" in words:
+        pytest.importorskip("cheroot", reason="python3-cheroot isn't there")
+    place.config.write_text(f"{place.config.read_text()}[page]\n{words}\n")
+    assert told in place.run("check").output
 
 
 def test_check_of_a_large_roster(place: Place) -> None:

@@ -138,6 +138,29 @@ def test_status_over_a_folder_that_cant_be_written(tmp_path: Path) -> None:
     assert child.status == 0, (tmp_path / "log").read_text()
 
 
+@as_root
+def test_whether_a_service_runs_on_a_disk_that_takes_nothing(tmp_path: Path) -> None:
+    """The page and `status` see that a service runs, or none, also where nothing can be written any more."""
+    folders = [tmp_path / name for name in ("runs", "ran", "new")]
+    for folder in folders:
+        store.prepare_folder(folder)
+    held = service.lock(folders[0])
+    os.close(service.lock(folders[1]))
+    for path in (tmp_path.parent.parent, tmp_path.parent, tmp_path):
+        path.chmod(0o755)
+    for path in tmp_path.rglob("*"):
+        path.chmod(0o400 if path.is_file() else 0o500)
+        os.chown(path, NOBODY, NOBODY)
+
+    def look() -> None:
+        os.seteuid(NOBODY)
+        assert [service.is_locked(folder) for folder in folders] == [True, False, False]
+    child = Child(tmp_path / "log", look)
+    until(lambda: not child.is_running())
+    os.close(held)
+    assert child.status == 0, (tmp_path / "log").read_text()
+
+
 def test_rights(tmp_path: Path) -> None:
     """Keys stand in the folder, so others may have no right on it, nor on the database and the roster."""
     folder = tmp_path / "wmbus"

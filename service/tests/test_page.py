@@ -4,10 +4,12 @@ from __future__ import annotations
 import csv
 import html
 import io
+import json
 import os
 import re
 import sqlite3
 import subprocess
+import tracemalloc
 from contextlib import closing, suppress
 from pathlib import Path
 
@@ -15,17 +17,21 @@ import pytest
 from wmbus_service import exporting, retention, schema, sensors
 from wmbus_service.config import Keep
 from wmbus_service.page import radios, reading, views
+from wmbus_service.status import status
 
 import frames
 import messages
 from readings import service_tables
+from readings.used import hour_of
 from .kill import TOP
-from .page_house import DAY, HOUR, PageHouse, page_fixture, zoned  # noqa: F401
+from .page_house import DAY, HOUR, TOKEN, PageHouse, entered, page_fixture, zoned  # noqa: F401
 from .processes import run
 from .test_sessions import NOW, house_fixture  # noqa: F401
 
 # NOW is the 15th of January 2027, 08:00 in UTC
 BERLIN = "CET-1CEST,M3.5.0,M10.5.0/3"
+# there the last hour of a day comes twice in October, since the clocks are set back at midnight
+BEIRUT = "EET-2EEST,M3.5.0/0,M10.5.0/0"
 
 
 def test_overview(page: PageHouse) -> None:
@@ -50,6 +56,9 @@ def test_overview(page: PageHouse) -> None:
     assert text.index("To look at") < text.index("All meters")
     for words in ("Cellar", "12.345 m³", "2 hours ago", "Get this meter&#39;s right key", "no memory", "2 of 3"):
         assert words in text
+    # (the line itself, which may be long, is told elsewhere)
+    assert "<code>wmbus-service status --json</code> shows the lines" in page.client().get("/receivers").text
+    assert [it["text"] for it in json.loads(status(page.house.config, True))["aside"]] == ["A 1 00"]
 
 
 def test_nothing_to_look_at(page: PageHouse, monkeypatch: pytest.MonkeyPatch) -> None:
@@ -92,6 +101,18 @@ def test_one_unit(page: PageHouse) -> None:
     told = page.client().get(f"/api/meters/{address}").json
     assert told
     assert {by: rows[0]["text"] for by, rows in told["used"][0]["by"].items()} == {"hour": "5 kWh", "day": "5 kWh", "month": "425 kWh"}
+
+
+def test_memory_of_moments() -> None:
+    """However long the page runs, and whatever it is asked for, what it remembers of moments takes no more than a small machine has."""
+    hour_of.cache_clear()
+    tracemalloc.start()
+    for moment in range(0, 60 * 200_000, 60):
+        hour_of(moment)
+    taken = tracemalloc.get_traced_memory()[0]
+    tracemalloc.stop()
+    hour_of.cache_clear()
+    assert taken < 32 << 20
 
 
 def test_hours_of_other_zones(page: PageHouse, monkeypatch: pytest.MonkeyPatch) -> None:
@@ -200,6 +221,31 @@ def test_registers_and_curves(page: PageHouse) -> None:
     assert 'role="img"' in text and "storage 1" in text
 
 
+def test_what_says_most(page: PageHouse) -> None:
+    """Beside a meter stands what says most of it, also where telegrams of two kinds take turns, as long as one of the last five has it."""
+    address = page.addresses[0]
+    page.read(address, NOW - HOUR, ("volume", "m3", -3, "1000"), ("energy", "Wh", 3, "120"))
+    page.read(address, NOW - HOUR + 1, ("flowtemperature", "C", -1, "713"), ("energy", "Wh", 3, "123"))
+    for number, wanted in enumerate(["123 kWh"] * 4 + ["20 °C"], 2):
+        page.read(address, NOW - HOUR + number, ("flowtemperature", "C", 0, "20"))
+        told = page.client().get("/api/meters").json or {}
+        assert (told["meters"][0]["main"]["text"], told["meters"][0]["counter"]) == (wanted, number + 1)
+
+
+def test_how_much_stands_there(page: PageHouse) -> None:
+    """Of many registers so many are drawn and counted as docs/PAGE.md says; what none of the last 200 readings has stands in the CSV."""
+    address = page.addresses[0]
+    kinds = (("energy", "Wh", 3), ("volume", "m3", -3), ("hca", "-", 0), ("mass", "kg", 0), ("power", "W", 0), ("flow", "m3/h", -3))
+    page.read(address, NOW - 3 * DAY, ("pressure", "bar", 0, "1"))
+    for first, last, registers in ((0, 199, 8), (199, 200, 7)):
+        for number in range(first, last):
+            page.read(address, NOW - DAY + 60 * number, *((*kind, str(number)) for kind in kinds),
+                      ("volume", "m3", -3, str(number), "instantaneous", 0, "3c"))
+        told = page.client().get(f"/api/meters/{address}").json or {}
+        assert (len(told["used"]), len(told["curves"]), len(told["values"])) == (4, 6, registers)
+    assert ",pressure," in page.client().get(f"/meters/{address}/readings.csv").text
+
+
 def test_registers_with_modifiers(page: PageHouse) -> None:
     """What modifiers make of a quantity is another one (docs/FORMATS.md): a volume, and what flowed backward, sent in front of it or alone."""
     address = page.addresses[0]
@@ -280,6 +326,27 @@ def test_receivers(page: PageHouse) -> None:
     assert shown == {"attic": (1.5, NOW, 2 / 3, []), "old": (0.0, NOW - 2 * DAY, 0.0, []), "roof": (0.0, None, None, ["heard nothing"])}
     text = page.client().get("/receivers").text
     assert "67 %" in text and "heard nothing" in text and "not in the configuration" in text
+
+
+def test_receivers_and_a_wrong_clock(page: PageHouse) -> None:
+    """A receiver that fell silent is told of also where lines of it were written while the clock was a month ahead."""
+    query = "insert into line (receiver, text, made) values (?, 'A 1 00', ?)"
+    for name, made in [("attic", NOW - 3 * HOUR), *[("attic", NOW + 30 * DAY)] * 50, ("attic", NOW - 2 * HOUR)]:
+        page.write(query, name, made)
+    for number in range(60):
+        page.write(query, "roof", NOW - number)
+    told = (page.client().get("/api/receivers").json or {})["receivers"]
+    assert [(it["name"], it["per_minute"], it["heard"], [look["what"] for look in it["looks"]]) for it in told] == [
+        ("attic", 0.0, NOW - 2 * HOUR, ["silent for 2 hours"]), ("roof", 1.0, NOW, [])]
+
+
+def test_a_receiver_whose_lines_are_gone(page: PageHouse) -> None:
+    """One that heard something once, and none of whose lines is kept any more, is silent; it isn't said to have heard nothing ever."""
+    page.write("update meter set receiver = 'roof' where address = ?", page.addresses[0])
+    told = (page.client().get("/api/receivers").json or {})["receivers"]
+    assert [(it["name"], [look["what"] for look in it["looks"]]) for it in told] == [
+        ("attic", ["heard nothing"]), ("roof", ["silent for long"])]
+    assert page.client().get("/receivers").text.count("never") == 1
 
 
 def test_frames_of_both_formats() -> None:
@@ -373,6 +440,11 @@ def test_csv_of_days_of_other_lengths(page: PageHouse, monkeypatch: pytest.Monke
         given = page.client().get(f"/meters/{address}/readings.csv?from={day}&to={day}").text
         return [row[5] for row in csv.reader(io.StringIO(given))][1:]
     assert (values("2026-03-29"), values("2026-10-25"), values("2026-10-26")) == (["0.001"], ["0.002"], ["0.003"])
+    zoned(monkeypatch, BEIRUT)
+    # 23:30 in Beirut on the 24th of October, the same an hour later, and 00:30 on the 25th, of 2026
+    for litres, moment in ((11, 1792873800), (12, 1792877400), (13, 1792881000)):
+        page.volume(address, moment, litres)
+    assert (values("2026-10-24"), values("2026-10-25")[0]) == (["0.011", "0.012"], "0.013")
 
 
 def test_commands_given_up_among_many(page: PageHouse) -> None:
@@ -387,18 +459,31 @@ def test_commands_given_up_among_many(page: PageHouse) -> None:
     assert len(told) == 1 and told[0].startswith("Command valve: ")
 
 
+def test_commands_of_a_meter_among_many(page: PageHouse) -> None:
+    """A command that waits for its meter stands on the page, and can be cancelled there, also where many came after it."""
+    address = page.addresses[0]
+    for number in range(70):
+        page.write("insert into command (id, address, kind, payload, state, made, changed) values (?, ?, 'send', '00', ?, ?, ?)",
+                   f"c{number}", address, "queued" if number == 3 else "confirmed", NOW - DAY + number, NOW - DAY + number)
+    client, _ = entered(page.page(TOKEN))
+    text = client.get(f"/meters/{address}").text
+    assert "Cancel c3" in text and "And 20 earlier ones." in text
+    told = client.get(f"/api/meters/{address}").json or {}
+    assert ([it["id"] for it in told["commands"]], told["commands_count"]) == (["c3", *(f"c{number}" for number in range(69, 20, -1))], 70)
+
+
 def test_strangers_among_many(page: PageHouse) -> None:
     """A stranger that is heard often now is told of though others were heard more often before, and none is left out without a word."""
     query = "insert into stranger values (?, ?, 'attic', ?)"
-    for number in range(250):
+    for number in range(1250):
         page.write(query, f"4304{number:08d}0407", 5000, NOW - 30 * DAY)
     page.write(query, "2d2c785634121b16", 50, NOW - 60)
     looks = (page.client().get("/api/overview").json or {})["looks"]
     assert [look["link"] for look in looks if look["what"] == "heard 50 times"] == ["/strangers#2d2c785634121b16"]
     text = page.client().get("/strangers").text
-    assert "And 51 more" in text and 'id="2d2c785634121b16"' in text
+    assert "And 1051 more" in text and 'id="2d2c785634121b16"' in text
     told = (page.client().get("/api/strangers").json or {})["strangers"]
-    assert len(told) == 251 and told[0]["address"] == "2d2c785634121b16"
+    assert len(told) == 1251 and told[0]["address"] == "2d2c785634121b16"
 
 
 def test_all_digits(page: PageHouse) -> None:
@@ -487,6 +572,15 @@ def test_no_code_of_a_meter_is_shown(page: PageHouse, tmp_path: Path) -> None:
     shown = [page.client().get(path).text for path in (f"/meters/{address}", f"/api/meters/{address}")]
     for text in (*shown, file.read_text()):
         assert "unknown" in text and "00ff" not in text
+
+
+def test_texts_of_a_meter(page: PageHouse, tmp_path: Path) -> None:
+    """Of a text, which the service stores as its bytes, what was sent stands on the page, and not the word for it alone."""
+    page.read(page.addresses[0], NOW - 60, ("fabrication", "-", 0, "text"))
+    file = tmp_path / "page.html"
+    run([f"{TOP}/bin/report_page", "--now", str(int(NOW)), str(page.house.config.database), str(file)])
+    for text in (page.client().get(f"/meters/{page.addresses[0]}").text, file.read_text()):
+        assert "text 00ff" in text and "“text”" not in text
 
 
 def test_page_as_a_file(page: PageHouse, tmp_path: Path) -> None:

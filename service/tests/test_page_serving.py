@@ -11,8 +11,11 @@ import subprocess
 import sys
 import threading
 import time
+import urllib.error
+import urllib.parse
 import urllib.request
 from collections.abc import Iterator, Sequence
+from concurrent.futures import ThreadPoolExecutor
 from contextlib import ExitStack, contextmanager, suppress
 from dataclasses import dataclass
 from pathlib import Path
@@ -21,7 +24,7 @@ from typing import Any
 import pytest
 from wmbus_service.page import serving
 
-from .page_house import TOKEN, PageHouse, page_fixture  # noqa: F401
+from .page_house import TOKEN, PageHouse, forms_word, page_fixture  # noqa: F401
 from .processes import PATIENCE, certificate_of, started, until
 from .test_sessions import house_fixture  # noqa: F401
 
@@ -33,6 +36,11 @@ TWO_ADDRESSES = """import runpy, socket
 found = socket.getaddrinfo
 names = {"localhost": ("127.0.0.1", "::1")}
 socket.getaddrinfo = lambda host, *more, **named: [it for name in names.get(host, (host,)) for it in found(name, *more, **named)]
+runpy.run_module("wmbus_service", run_name="__main__")
+"""
+# the service on a machine that hasn't Debian's python3-flask
+WITHOUT_FLASK = """import runpy, sys
+sys.modules["flask"] = None
 runpy.run_module("wmbus_service", run_name="__main__")
 """
 
@@ -97,6 +105,12 @@ def with_token(tmp_path: Path) -> str:
     return f'token_file = "{token}"\n'
 
 
+def free_port() -> int:
+    """A port that nobody has."""
+    with socket.create_server(("127.0.0.1", 0)) as free:
+        return int(free.getsockname()[1])
+
+
 def test_on_this_machine(page: PageHouse) -> None:
     """It is served, and ends with status 0."""
     with served(page, "port = 0\n") as it:
@@ -105,10 +119,40 @@ def test_on_this_machine(page: PageHouse) -> None:
         assert it.ended() == 0, it.said()
 
 
+def test_many_at_once(page: PageHouse) -> None:
+    """Many who look at it at once are all answered, and its log, in which its end has its reason, says nothing of them."""
+    with served(page, "port = 0\n") as it, ThreadPoolExecutor(6 * serving.THREADS) as browsers:
+        it.port()
+        told = list(browsers.map(lambda _: fetched(it), range(30 * serving.THREADS)))
+        assert all("All meters" in text for text in told) and len(it.said().splitlines()) == 1, it.said()
+
+
+def test_a_new_token(page: PageHouse, tmp_path: Path) -> None:
+    """A new token counts once the page is started anew; who entered by the one before has to enter again then."""
+    port, browser = free_port(), urllib.request.build_opener(urllib.request.HTTPCookieProcessor())
+
+    def asked(path: str, **fields: str) -> str:
+        data = urllib.parse.urlencode(fields).encode() if fields else None
+        with browser.open(f"http://127.0.0.1:{port}{path}", data, PATIENCE) as given:
+            return str(given.read().decode())
+
+    def is_entered(token: str = "") -> bool:
+        with suppress(urllib.error.HTTPError):
+            if token:
+                asked("/enter", forms=forms_word(asked("/enter")), token=token)
+        return "Leave" in asked("/")
+    words = f"port = {port}\n{with_token(tmp_path)}"
+    with served(page, words) as it:
+        assert it.port() == port and is_entered(TOKEN)
+        (tmp_path / "token").write_text(TOKEN[::-1])
+        assert is_entered()
+    with served(page, words) as it:
+        assert it.port() == port and not is_entered() and not is_entered(TOKEN) and is_entered(TOKEN[::-1])
+
+
 def test_a_name_of_two_addresses(page: PageHouse) -> None:
     """Under localhost it is served at both of its addresses, and says where."""
-    with socket.create_server(("127.0.0.1", 0)) as free:
-        port = free.getsockname()[1]
+    port = free_port()
     with served(page, f'host = "localhost"\nport = {port}\n', ("-c", TWO_ADDRESSES)) as it:
         until(lambda: "the page is at" in it.said() or it.process.poll() is not None)
         assert f"the page is at http://localhost:{port}/" in it.said(), it.said()
@@ -117,6 +161,12 @@ def test_a_name_of_two_addresses(page: PageHouse) -> None:
                 assert "All meters" in given.read().decode()
         it.process.send_signal(signal.SIGTERM)
         assert it.ended() == 0, it.said()
+
+
+def test_without_its_packages(page: PageHouse) -> None:
+    """Where a package of Debian that it needs isn't there it is named."""
+    with served(page, "port = 0\n", ("-c", WITHOUT_FLASK)) as it:
+        assert it.ended() == 1 and "apt-get install python3-flask" in it.said() and "Traceback" not in it.said()
 
 
 def test_an_address_of_version_6(page: PageHouse) -> None:
@@ -176,9 +226,10 @@ def test_broken_records(page: PageHouse, tmp_path: Path) -> None:
         assert "<h1>Enter</h1>" in fetched(it, trust)
 
 
-def test_requests_without_end(page: PageHouse, tmp_path: Path) -> None:
-    """Heads and bodies of any length take no memory from a page with TLS: it answers before it has taken all of them."""
-    words, trust = with_tls(tmp_path)
+@pytest.mark.parametrize("is_with_tls", [False, True])
+def test_requests_without_end(page: PageHouse, tmp_path: Path, is_with_tls: bool) -> None:
+    """Heads and bodies of any length take no memory and no disk from a page: it answers before it has taken all of them."""
+    words, trust = with_tls(tmp_path) if is_with_tls else ("port = 0\n", None)
     head = b"Host: 127.0.0.1\r\nConnection: close\r\n"
     chunk = b"10000\r\n" + b"a" * 0x10000 + b"\r\n"
     with served(page, words + with_token(tmp_path)) as it:
@@ -188,14 +239,14 @@ def test_requests_without_end(page: PageHouse, tmp_path: Path) -> None:
                                    + b"Transfer-Encoding: chunked\r\n\r\n9\r\nforms=a&b\r\n", chunk, b"0\r\n\r\n")):
             sent = 0
             with socket.create_connection(("127.0.0.1", it.port()), PATIENCE) as plain, suppress(OSError):
-                with trust.wrap_socket(plain, server_hostname="127.0.0.1") as asked:
+                with trust.wrap_socket(plain, server_hostname="127.0.0.1") if trust else plain as asked:
                     asked.sendall(begun)
                     while sent < 1024:
                         asked.sendall(piece)
                         sent += 1
                     asked.sendall(end)
             assert sent < 1024
-        assert "<h1>Enter</h1>" in fetched(it, trust)
+        assert ("<h1>Enter</h1>" if trust else "All meters") in fetched(it, trust)
 
 
 def test_silent_connections(page: PageHouse, tmp_path: Path) -> None:

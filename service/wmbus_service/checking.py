@@ -15,7 +15,7 @@ from dataclasses import dataclass, replace
 from pathlib import Path
 
 from . import meters, store
-from .config import Config, Mqtt, Receiver, unproved_words, words_of
+from .config import Config, Mqtt, Page, Receiver, unproved_words, words_of
 from .receiving import PROFILES, feed_of
 from .steps import ProgramFailed, output_of, run_steps, state_text
 from .trouble import Trouble
@@ -67,6 +67,8 @@ def check(config: Config) -> Iterator[Finding]:
         yield tried(f"downlinks of {name}", lambda name=name, told=told: look_at_downlinks(name, told))  # type: ignore[misc]
     if config.mqtt:
         yield tried(f"MQTT broker {config.mqtt.host}:{config.mqtt.port}", lambda: look_at_broker(config, config.mqtt))
+    if config.page:
+        yield tried(f"page {config.page.host}:{config.page.port}", lambda: look_at_page(config.page))
 
 
 def tried(name: str, look: Callable[[], object]) -> Finding:
@@ -203,3 +205,12 @@ def look_at_broker(config: Config, told: Mqtt | None) -> None:
     from .broker import try_connection
     assert told
     try_connection(told)
+
+
+def look_at_page(told: Page | None) -> None:
+    """What the page needs: its packages, its token, and TLS where others reach it."""
+    from .page import servers
+    assert told
+    servers().look_at_page(told)
+    if told.certificate:
+        servers().server_with_tls(None, told)

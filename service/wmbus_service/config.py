@@ -234,11 +234,14 @@ def _value_of(name: str, wanted: Any, told: object) -> object:
         return Path(told)
     if wanted is float and isinstance(told, (int, float)) and not isinstance(told, bool) and 0 < told < 10 ** 9:
         return float(told)
-    if wanted is int and isinstance(told, int) and not isinstance(told, bool) and 0 <= told < 2 ** 62:
+    # (of a greater port the system takes another one, without a word)
+    most = 2 ** 16 - 1 if name.endswith("port") else 2 ** 62 - 1
+    if wanted is int and isinstance(told, int) and not isinstance(told, bool) and 0 <= told <= most:
         return told
     if wanted in (str, bool) and isinstance(told, wanted):
         return told
-    words = {Path: "a path from the root on", float: "a number above 0", int: "a number", str: "a text", bool: "true or false"}
+    words = {Path: "a path from the root on", float: "a number above 0", int: f"a number from 0 to {most}", str: "a text",
+             bool: "true or false"}
     raise _Faulty(f"{name} isn't {words[wanted]}")
 
 

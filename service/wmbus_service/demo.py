@@ -17,7 +17,6 @@ from .made_building import CONFIRMED, GIVEN_UP, WAITING, Building
 from .service import Service, lock
 from .session import MOST
 from .status import figures, in_words
-from .trouble import Trouble
 
 DAYS = 400
 RECEIVER = "attic"
@@ -116,13 +115,9 @@ class Served:
     """The page of a demo, served by a thread."""
 
     def __init__(self, config: Config) -> None:
-        try:
-            from .page.app import create_app
-            from .page.serving import plain_server
-        except ImportError as fault:
-            raise Trouble("the page", f"it can't be served: {fault}",
-                          "apt-get install python3-flask python3-waitress, or give --text") from None
+        from .page import servers
+        serving = servers(", or give --text")
         self.token = secrets.token_urlsafe(18)
-        server = plain_server(create_app(config, self.token), config.page or Page())
+        server = serving.plain_server(serving.create_app(config, self.token), config.page or Page())
         self.address = f"http://127.0.0.1:{server.effective_port}/"
         threading.Thread(target=server.run, daemon=True).start()

@@ -52,7 +52,7 @@ def lock(folder: Path) -> int:
 
 
 def is_locked(folder: Path) -> bool:
-    """Whether a service works on a folder, also on one that can't be written any more."""
+    """Whether a service works on a folder, of which nothing is written: a disk that failed takes nothing more."""
     try:
         opened = os.open(folder / "lock", os.O_RDONLY | os.O_CLOEXEC)
     except FileNotFoundError:

@@ -42,6 +42,8 @@ HEADERS = {
     "Cross-Origin-Resource-Policy": "same-origin",
 }
 MOST_BYTES = 1 << 16
+# so many bytes a server takes of a request's head at most, and of its body; the page itself takes fewer, and says so in words
+MOST_HEAD, MOST_BODY = 1 << 16, 1 << 20
 # after so long the token is asked for again
 ENTERED_SECONDS = 12 * 3600
 LAST_MOMENT = (1 << 63) - 1
@@ -339,7 +341,8 @@ def meter_readings(address: str) -> Response:
 
 def _csv(name: str, addresses: list[str]) -> Response:
     """Readings from a moment or day to another, line by line."""
-    begin, end = _bound("from", 0, (0, 0, 0)), _bound("to", LAST_MOMENT, (23, 59, 59))
+    # (where an hour comes twice at a day's end, its second one is of that day too)
+    begin, end = _bound("from", 0, clock_time()), _bound("to", LAST_MOMENT, clock_time(23, 59, 59, fold=1))
     door = door_of()
 
     def rows() -> Iterator[str]:
@@ -348,7 +351,7 @@ def _csv(name: str, addresses: list[str]) -> Response:
     return Response(rows(), mimetype="text/csv", headers={"Content-Disposition": f'attachment; filename="{name}"'})
 
 
-def _bound(name: str, without: int, of_day: tuple[int, int, int]) -> int:
+def _bound(name: str, without: int, of_day: clock_time) -> int:
     """A bound of a span: seconds since 1970, or a day, of which the last second counts at the end."""
     text = request.args.get(name, "")
     if not text:
@@ -356,6 +359,6 @@ def _bound(name: str, without: int, of_day: tuple[int, int, int]) -> int:
     if re.fullmatch("[0-9]{1,18}", text, re.ASCII):
         return int(text)
     try:
-        return int(datetime.combine(datetime.strptime(text, "%Y-%m-%d"), clock_time(*of_day)).timestamp())
+        return int(datetime.combine(datetime.strptime(text, "%Y-%m-%d"), of_day).timestamp())
     except (ValueError, OverflowError):
         raise Worded(f"`{name}` is a day as 2026-01-31, or a number of seconds since 1970.") from None

@@ -89,12 +89,16 @@ def _since(meter: Meter) -> str:
 
 def radio_looks(radio: Radio, now: float) -> Iterator[Look]:
     """What is to be looked at of a receiver."""
-    title = f"Receiver {radio.name}"
-    if radio.heard is None and radio.is_configured:
-        yield Look("bad", "heard nothing", title, "/receivers",
-                   "Is it plugged in, and does its unit run? `wmbus-service check` tells more.")
-    elif radio.heard is not None and radio.is_configured and now - radio.heard > RADIO_SILENCE:
-        yield Look("bad", silence(now - radio.heard), title, "/receivers", "Is it plugged in, and does its unit run?")
+    title, to_do = f"Receiver {radio.name}", "Is it plugged in, and does its unit run?"
+    if not radio.is_configured:
+        return
+    if radio.heard is None and not radio.was_heard:
+        yield Look("bad", "heard nothing", title, "/receivers", f"{to_do} `wmbus-service check` tells more.")
+    elif radio.heard is None:
+        yield Look("bad", "silent for long", title, "/receivers",
+                   f"What it heard is kept no longer, or was written while the clock was ahead. {to_do}")
+    elif now - radio.heard > RADIO_SILENCE:
+        yield Look("bad", silence(now - radio.heard), title, "/receivers", to_do)
 
 
 def all_looks(config: Config, database: Database, meters: list[Meter], radios: list[Radio], now: float) -> list[Look]:

@@ -6,11 +6,14 @@ from dataclasses import dataclass
 
 from ..asking import Database
 from ..config import Config
+from .shared import GRACE
 
 # the last lines, over all receivers, of which each receiver's are counted, and as many of one receiver whose frames are looked at
 LAST_LINES, LAST_FRAMES = 10_000, 300
 HOUR = 3600.0
-LAST_OF = "select made from line where receiver = ? order by number desc limit 1"
+LAST_OF = "select made from line where receiver = ? and made <= ? order by number desc limit 1"
+# receivers that heard something once, also where none of their lines is kept any more
+ONCE_HEARD = "select receiver from source union select receiver from meter union select receiver from stranger"
 # the generator of the check sums of EN 13757-4
 POLYNOMIAL = 0x3D65
 
@@ -20,6 +23,7 @@ class Radio:
     """A receiver: its last line, its lines a minute over the last hour, and the share of its last frames whose check sums are right."""
 
     name: str
+    was_heard: bool
     heard: float | None
     per_minute: float
     framed: float | None
@@ -28,21 +32,23 @@ class Radio:
 
 def receivers(config: Config, database: Database, now: float, with_frames: bool = False) -> list[Radio]:
     """All receivers that are configured or were heard, by name."""
+    # (lines that were written while the clock was ahead tell nothing of this hour, nor that their receiver still hears something)
+    soon = now + GRACE
     rows = database.execute("select receiver, max(made), min(made), sum(made > ?), count(*) from"
-                            " (select receiver, made from line order by number desc limit ?) group by receiver",
-                            (now - HOUR, LAST_LINES)).fetchall()
+                            " (select receiver, made from line where made <= ? order by number desc limit ?) group by receiver",
+                            (now - HOUR, soon, LAST_LINES)).fetchall()
     # (where so many lines don't reach back an hour, it is told over less)
     is_full = sum(row[4] for row in rows) == LAST_LINES
     seconds = min(HOUR, max(1.0, now - min(row[2] for row in rows))) if is_full else HOUR
     heard = {name: (last, count) for name, last, _, count, _ in rows if name is not None}
-    sources = {name for (name,) in database.execute("select distinct receiver from source where receiver is not null")}
+    known = {name for (name,) in database.execute(ONCE_HEARD) if name is not None} | heard.keys()
     found = []
-    for name in sorted(heard.keys() | sources | config.receivers.keys()):
+    for name in sorted(known | config.receivers.keys()):
         last, count = heard.get(name, (None, 0))
         if last is None:
-            last = next((made for (made,) in database.execute(LAST_OF, (name,))), None)
+            last = next((made for (made,) in database.execute(LAST_OF, (name, soon))), None)
         framed = _framed(database, name) if with_frames and last is not None else None
-        found.append(Radio(name, last, round(60 * count / seconds, 1), framed, name in config.receivers))
+        found.append(Radio(name, name in known, last, round(60 * count / seconds, 1), framed, name in config.receivers))
     return found
 
 

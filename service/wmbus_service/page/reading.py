@@ -28,6 +28,10 @@ PATIENCE = 2.0
 MOST_READINGS, MOST_VALUES = 200, 20_000
 # readings are looked through for the last value of overviews
 FEW_READINGS = 5
+# the rank of what says most of a meter: no other value says more
+MOST_SAID = (False, 0)
+# no store keeps more strangers
+KEPT_STRANGERS = 10_000
 # powers of ten by which a number is shown with all its digits
 MOST_POWER = 60
 FIRST_ALWAYS = "function = 'instantaneous' and storage = 0 and tariff = 0 and subunit = 0"
@@ -168,19 +172,20 @@ def _last_readings(database: Database, address: str, now: float, most: int) -> L
     return found
 
 
-def _main_value(database: Database, readings: list[tuple[int, int, float, int]], now: float) -> Value | None:
-    """Of a meter's last values the one that says most."""
-    other = None
+def _main_value(database: Database, readings: Last, now: float) -> Value | None:
+    """Of the values of a meter's last readings the one that says most, as the last of these has it."""
+    best: Value | None = None
     for ident, moment, made, _ in readings:
         rows = database.execute(f"select quantity, unit, modifiers, exponent, value, raw from record where reading = ? and {FIRST_ALWAYS}"
                                 " order by place limit 100", (ident,))
         found = [Value(Register(quantity, unit, modifiers=modifiers), exact(value, exponent), raw, heard_at(moment, made, now))
                  for quantity, unit, modifiers, exponent, value, raw in rows if quantity not in NAMES and NUMBER.fullmatch(value)]
-        best = min(found, key=lambda it: it.rank, default=None)
-        if best is not None and best.register.is_main():
-            return best
-        other = other or best
-    return other
+        first = min(found, key=lambda it: it.rank, default=None)
+        if first is not None and (best is None or first.rank < best.rank):
+            best = first
+        if best is not None and best.rank == MOST_SAID:
+            break
+    return best
 
 
 def last_values(database: Database, address: str, now: float) -> list[Value]:
@@ -240,11 +245,17 @@ def rows_of(database: Database, query: str, given: Sequence[object] = ()) -> lis
     return [dict(zip(names, row, strict=True)) for row in asked]
 
 
-def commands_of(database: Database, address: str | None = None, most: int = 50) -> list[dict[str, Any]]:
-    """A meter's commands, or all, the last ones first; those of new keys without the key."""
+def commands_of(database: Database, address: str, most: int = 50) -> list[dict[str, Any]]:
+    """A meter's commands, the open ones first, and of these and of the others the last ones; those of new keys without the key."""
     return rows_of(database, "select id, address, kind, case kind when 'send' then payload else '' end as payload, state, number, tries,"
-                             " reason, wish, made, changed from command where address = coalesce(?, address) order by rowid desc limit ?",
-                   (address, most))
+                             " reason, wish, made, changed from command where address = ?"
+                             " order by state in ('waiting', 'queued', 'sent') desc, rowid desc limit ?", (address, most))
+
+
+def count_commands(database: Database, address: str) -> int:
+    """How many commands a meter has."""
+    (count,) = database.execute("select count(*) from command where address = ?", (address,)).fetchone()
+    return int(count)
 
 
 def refusals_of(database: Database, address: str) -> list[dict[str, Any]]:
@@ -253,7 +264,7 @@ def refusals_of(database: Database, address: str) -> list[dict[str, Any]]:
                    (address,))
 
 
-def strangers(database: Database, most: int = 1000, since: float = 0) -> list[dict[str, Any]]:
+def strangers(database: Database, most: int = KEPT_STRANGERS, since: float = 0) -> list[dict[str, Any]]:
     """Meters that aren't known: those that were heard since a moment first, and of these those that were heard most."""
     found = rows_of(database, "select address, times, receiver, last_made from stranger where not exists"
                               " (select 1 from meter where meter.address = stranger.address)"

@@ -13,7 +13,7 @@ from ..config import Config, Page
 from ..ending import Ending
 from ..memory_files import leave_no_core
 from ..trouble import Trouble
-from .app import create_app, is_local as is_local
+from .app import MOST_BODY, MOST_HEAD, create_app, is_local as is_local
 
 log = logging.getLogger("wmbus")
 
@@ -112,8 +112,11 @@ def serve_until(ending: Ending, page: Page, serve: Callable[[], object], stop: C
 def plain_server(app: object, page: Page) -> Any:
     """A server without TLS, which holds its port already."""
     import waitress
+    # (that requests wait for a moment is no trouble)
+    logging.getLogger("waitress.queue").setLevel(logging.ERROR)
     try:
-        return waitress.create_server(app, host=page.host, port=page.port, threads=THREADS, ident=None)
+        return waitress.create_server(app, host=page.host, port=page.port, threads=THREADS, ident=None,
+                                      max_request_header_size=MOST_HEAD, max_request_body_size=MOST_BODY)
     except OSError as fault:
         raise _unserved(page, fault) from None
 

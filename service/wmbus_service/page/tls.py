@@ -9,9 +9,8 @@ from cheroot.ssl.builtin import BuiltinSSLAdapter
 from cheroot.wsgi import Server
 
 from ..config import Page
+from .app import MOST_BODY, MOST_HEAD
 
-# so many bytes a request's head has at most, and its body; the page itself takes fewer, and says so in words
-MOST_HEAD, MOST_BODY = 1 << 16, 1 << 20
 ENVIRONMENT = {"wsgi.url_scheme": "https", "HTTPS": "on"}
 
 

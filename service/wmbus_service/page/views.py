@@ -12,7 +12,7 @@ from ..config import Config
 from ..exporting import HEAD
 from . import looks, periods, radios
 from .reading import (
-    Meter, Value, all_meters, commands_of, exact, last_values, one_meter, refusals_of, rows_of, strangers,
+    Meter, Value, all_meters, commands_of, count_commands, exact, last_values, one_meter, refusals_of, rows_of, strangers,
 )
 
 MOST_LOOKS, MOST_SHOWN = 100, 200
@@ -71,7 +71,8 @@ def meter_page(database: Database, address: str, span: str, now: float) -> dict[
             "values": [value_data(it) for it in values], "used": used, "span": span,
             "curves": [asdict(it) | {"told": it.told} for it in drawn],
             "refusals": [row | asdict(looks.explained(row["words"])) for row in refusals],
-            "commands": [row | {"words": looks.STATES[row["state"]]} for row in commands_of(database, meter.address)]}
+            "commands": [row | {"words": looks.STATES[row["state"]]} for row in commands_of(database, meter.address)],
+            "commands_count": count_commands(database, meter.address)}
 
 
 def receivers_page(config: Config, database: Database, now: float) -> dict[str, Any]:
