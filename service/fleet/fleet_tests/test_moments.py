@@ -3,7 +3,12 @@ messages that no gateway of ours sends."""
 from __future__ import annotations
 
 import io
+import itertools
+import json
+import os
 import random
+import re
+import socket
 import sqlite3
 import subprocess
 import threading
@@ -14,32 +19,41 @@ from configparser import ConfigParser
 from contextlib import closing
 from dataclasses import replace
 from pathlib import Path
+from tempfile import TemporaryDirectory
+from types import SimpleNamespace
 from typing import Any
 
 import psycopg
 import pytest
+from psycopg.conninfo import conninfo_to_dict, make_conninfo
 from tests.kill import PYTHON
 from tests.meters import line_of, next_telegrams, roster_of, some_meters
-from tests.processes import started, until
+from tests.processes import run, started, until
 from tests.stand_in import stand_in
-from wmbus_fleet import backup, broker, commandline, commands, demo, downlinks, gateway, gateways, intake, metrics, sessions, store
+from wmbus_fleet import (
+    backup, broker, commandline, commands, demo, downlinks, gateway, gateways, intake, lifeline, metrics, own_servers, sessions, store,
+)
 from wmbus_fleet.administration import Administration
 from wmbus_fleet.arrived import arrived
-from wmbus_fleet.config import Broker, Config, Gateway, Keep, Metrics, Ticks
+from wmbus_fleet.config import Broker, Config, Gateway, Keep, Metrics, Ticks, read_config
+from wmbus_fleet.demo import Demo
 from wmbus_fleet.gateway import Agent, arm, open_gateway
 from wmbus_fleet.intake import Consuming, Intake
-from wmbus_fleet.messages import Down, Message, down_body, frames_in, lines_body, read_lines
+from wmbus_fleet.messages import LAST, Again, Down, Message, down_body, frames_in, lines_body, read_lines
 from wmbus_fleet.retention import let_go
 from wmbus_fleet.status import figures, in_words
+from wmbus_fleet.view.app import create_app
 from wmbus_service import store as service_store
 from wmbus_service.config import Config as ServiceConfig
 from wmbus_service.config import Receiver
 from wmbus_service.ending import Ending
+from wmbus_service.service import lock
 from wmbus_service.spool import LONGEST
 from wmbus_service.steps import ProgramFailed
 from wmbus_service.store import prepare_folder
 from wmbus_service.trouble import Trouble
 
+from .servers import Both
 from .test_parts import DAY, NOW, Fleet, House, fleet, house
 
 __all__ = ["fleet", "house"]
@@ -295,13 +309,19 @@ def test_a_copy_of_the_release_before(fleet: Fleet, restored: Config, tmp_path: 
         assert {block.split(" ")[6] for (block,) in database.execute("select block from meter")} == {"50"}
 
 
+def stand_ins(folder: Path, **programs: str) -> str:
+    """Programs of PostgreSQL's that do something else; the path that finds them first."""
+    for name, does in programs.items():
+        (folder / name).write_text(f"#!/bin/sh\n{does}\n")
+        (folder / name).chmod(0o700)
+    return f"{folder}:/usr/bin:/bin"
+
+
 def test_no_password_is_an_argument(tmp_path: Path, monkeypatch: pytest.MonkeyPatch) -> None:
     """Every user of the machine sees a program's words."""
     seen = tmp_path / "seen"
-    for name in ("pg_dump", "pg_restore"):
-        (tmp_path / name).write_text(f'#!/bin/sh\necho "$@" >>{seen}\necho "$PGPASSWORD" >>{tmp_path}/password\necho "{backup.INBOX}"\n')
-        (tmp_path / name).chmod(0o700)
-    monkeypatch.setenv("PATH", f"{tmp_path}:/usr/bin:/bin")
+    does = f'echo "$@" >>{seen}\necho "$PGPASSWORD" >>{tmp_path}/password\necho "{backup.INBOX}"'
+    monkeypatch.setenv("PATH", stand_ins(tmp_path, pg_dump=does, pg_restore=does))
     backup.back_up(Config(database="host=db dbname=wmbus user=wmbus password='very secret'"), tmp_path / "copy")
     assert "secret" not in seen.read_text() and "dbname=wmbus" in seen.read_text()
     assert set((tmp_path / "password").read_text().splitlines()) == {"very secret"}
@@ -312,13 +332,32 @@ def test_a_copy_that_could_never_be_put_back(tmp_path: Path, monkeypatch: pytest
     """As of a database without a fleet's tables, by a slip of the pen in the configuration, or of one into which a copy is just put: that is
     said when it is made, and not when it is wanted."""
     (tmp_path / "listed").write_text(listed)
-    for name, does in (("pg_dump", ""), ("pg_restore", f"cat {tmp_path}/listed")):
-        (tmp_path / name).write_text(f"#!/bin/sh\n{does}\n")
-        (tmp_path / name).chmod(0o700)
-    monkeypatch.setenv("PATH", f"{tmp_path}:/usr/bin:/bin")
+    monkeypatch.setenv("PATH", stand_ins(tmp_path, pg_dump="", pg_restore=f"cat {tmp_path}/listed"))
     with pytest.raises(Trouble, match="couldn't be put back"):
         backup.back_up(Config(), tmp_path / "copy")
     assert not list(tmp_path.glob("copy*"))
+
+
+def test_a_copy_that_is_ended(tmp_path: Path) -> None:
+    """As by a timer whose time is over: no part of it is left, which has keys."""
+    path = stand_ins(tmp_path, pg_dump=f"touch {tmp_path}/begun; exec sleep 600")
+    (tmp_path / "fleet.toml").touch()
+    command = [PYTHON, str(Path(__file__).parents[1] / "wmbus-fleet"), "--config", str(tmp_path / "fleet.toml"), "backup", f"{tmp_path}/copy"]
+    with started(command, env=os.environ | {"PATH": path}, stderr=subprocess.PIPE, text=True) as process:
+        until((tmp_path / "begun").exists)
+        process.terminate()
+        assert process.wait(LIMIT) == 1 and process.stderr and "interrupted" in process.stderr.read()
+    assert not list(tmp_path.glob("copy*"))
+
+
+def test_a_command_that_is_interrupted(tmp_path: Path, monkeypatch: pytest.MonkeyPatch, capsys: pytest.CaptureFixture[str]) -> None:
+    """By Ctrl-C: its status doesn't say that all is done."""
+    def interrupted(*_: Any) -> int:
+        raise KeyboardInterrupt
+    monkeypatch.setattr(backup, "restore", interrupted)
+    (tmp_path / "fleet.toml").touch()
+    assert commandline.main(["--config", str(tmp_path / "fleet.toml"), "restore", "copy"]) == 1
+    assert "interrupted" in capsys.readouterr().err
 
 
 def test_an_area_that_is_made_while_an_intake_works(fleet: Fleet, tmp_path: Path) -> None:
