@@ -790,6 +790,16 @@ def test_a_port_that_no_metrics_have() -> None:
         metrics.run(Config(metrics=Metrics(port=70_000)), Ending())
 
 
+def test_no_core_file(tmp_path: Path) -> None:
+    """Where a part dies of a fault none is left, in which keys would stand: neither as a file, of which the limit is 0, nor by what takes core
+    files through a pipe, which that doesn't hold (core(5)), and which gets none of a process that can't be dumped (prctl(2))."""
+    text = ("import ctypes, resource\nfrom wmbus_fleet.commandline import _ending\n_ending()\n"
+            "print(resource.getrlimit(resource.RLIMIT_CORE), ctypes.CDLL(None).prctl(3, 0, 0, 0, 0))")
+    folders = Path(__file__).parents[1:3]
+    ran = run([PYTHON, "-c", text], env=os.environ | {"PYTHONPATH": ":".join(map(str, folders))}, cwd=tmp_path)
+    assert ran.stdout == "(0, 0) 0\n"
+
+
 def test_names_of_a_file_of_another_system(fleet: Fleet, tmp_path: Path) -> None:
     """A sign that some editors put in front of the first line is none of its address."""
     path = tmp_path / "names"

@@ -5,7 +5,6 @@ import argparse
 import getpass
 import logging
 import os
-import resource
 import secrets
 import signal
 import socket
@@ -17,6 +16,7 @@ from pathlib import Path
 import psycopg
 from wmbus_service.config import read_config as read_service
 from wmbus_service.ending import Ending
+from wmbus_service.memory_files import leave_no_core
 from wmbus_service.printing import leave_unread, parsed
 from wmbus_service.trouble import Trouble
 
@@ -145,7 +145,7 @@ def _operating_words(command: Command) -> None:
 
 def _ending() -> Ending:
     """What SIGTERM and SIGINT set. No core file with keys is left."""
-    resource.setrlimit(resource.RLIMIT_CORE, (0, 0))
+    leave_no_core()
     ending = Ending()
     ending.heed_signals()
     return ending
