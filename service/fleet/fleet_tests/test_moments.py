@@ -784,10 +784,17 @@ def test_how_a_new_key_is_given(fleet: Fleet, tmp_path: Path, monkeypatch: pytes
         {} if status else {"rekey": "00112233445566778899aabbccddeeff"})
 
 
-def test_a_port_that_no_metrics_have() -> None:
+@pytest.mark.parametrize("told", [Metrics(port=70_000), Metrics(host="house..net")])
+def test_where_no_metrics_can_be(told: Metrics) -> None:
     """It is named, without a trace."""
     with pytest.raises(Trouble, match="metrics"):
-        metrics.run(Config(metrics=Metrics(port=70_000)), Ending())
+        metrics.run(Config(metrics=told), Ending())
+
+
+def test_metrics_before_any_were_taken() -> None:
+    """No counter is 0 for a moment, as behind a start of the process: what comes next would be taken for a rise of all that ever was."""
+    (told,) = [it for it in metrics.Figures().collect() if it.samples]
+    assert told.name == "wmbus_fleet_figures_age_seconds" and told.samples[0].value < LIMIT
 
 
 def test_no_core_file(tmp_path: Path) -> None:

@@ -5,7 +5,7 @@ import json
 import re
 import time
 from collections.abc import Iterator
-from dataclasses import dataclass
+from dataclasses import dataclass, replace
 from decimal import Decimal
 from pathlib import Path
 from typing import Any
@@ -188,7 +188,7 @@ def test_the_pages_role_reads_no_key(shown: Shown) -> None:
     for path in ("/", "/meters", f"/meters/{shown.made.town.meters[0].address.hex()}", "/gateways", "/areas/shown-south", "/strangers"):
         assert app.get(path).status_code == 200, path
     told: Any = app.get("/api/overview").get_json()
-    assert told["workers"]["sessions"] == 2
+    assert told["workers"]["sessions"] == 2 == metrics.take(replace(shown.made.config, database=words)).labelled["workers"]["sessions"]
     with psycopg.connect(words, autocommit=True) as database:
         for query in ("select block from meter", "select frame from outbox", "select payload from command", "select text from line",
                       "delete from page.meter", "update page.gateway set area = 'x'"):

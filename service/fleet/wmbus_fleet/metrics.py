@@ -118,15 +118,17 @@ class Figures(Collector):
     """What was taken last."""
 
     def __init__(self) -> None:
-        self.taken = Taken()
+        # (none yet)
+        self.taken = Taken(moment=time.time())
 
     def collect(self) -> Iterator[Metric]:
         """All metrics."""
         taken = self.taken
         yield GaugeMetricFamily(f"{PREFIX}figures_age_seconds", "how old these figures are", value=time.time() - taken.moment)
-        for name, words in COUNTERS.items():
-            counter = CounterMetricFamily(f"{PREFIX}{name}", f"{words}, over all starts")
-            counter.add_metric([], taken.counters.get(name, 0.0))
+        # (before any are taken there are none: after a nought each of these would seem to have risen from there in a moment)
+        for name, number in taken.counters.items():
+            counter = CounterMetricFamily(f"{PREFIX}{name}", f"{COUNTERS[name]}, over all starts")
+            counter.add_metric([], number)
             yield counter
         for name, words in GAUGES.items():
             if name in taken.gauges:
@@ -145,9 +147,9 @@ def run(config: Config, ending: Ending) -> None:
     registry.register(figures)
     try:
         start_http_server(told.port, addr=told.host, registry=registry)
-    except (OSError, OverflowError) as fault:
+    except (OSError, OverflowError, UnicodeError) as fault:
         raise Trouble(f"metrics.host {told.host} and metrics.port {told.port}", f"the metrics can't be served: {fault}",
-                      "name another port, or end what uses this one") from None
+                      "name another host or port, or end what uses this one") from None
     while True:
         try:
             figures.taken = take(config)
