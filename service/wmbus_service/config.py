@@ -183,19 +183,19 @@ def read_config(path: Path) -> Config:
     """The configuration of a file."""
     config = read_settings(path, Config, "docs/SERVICE.md")
     assert isinstance(config, Config)
-    for known in dataclasses.fields(Programs):
-        _look_at_program(path, known, getattr(config.programs, known.name))
+    look_at_programs(path, config.programs)
     return config
 
 
-def _look_at_program(path: Path, known: dataclasses.Field[str], command: str) -> None:
-    """A program's words that are none."""
-    try:
-        is_empty = not words_of(command)
-    except ValueError as fault:
-        raise Trouble(path, f"programs.{known.name} isn't a command: {fault}", "look at its quotes") from None
-    if is_empty and known.default is dataclasses.MISSING:
-        raise Trouble(path, f"programs.{known.name} is empty", "leave it out: the program that is installed is taken then")
+def look_at_programs(path: Path, programs: Any) -> None:
+    """Programs whose words are none."""
+    for known in dataclasses.fields(programs):
+        try:
+            is_empty = not words_of(getattr(programs, known.name))
+        except ValueError as fault:
+            raise Trouble(path, f"programs.{known.name} isn't a command: {fault}", "look at its quotes") from None
+        if is_empty and known.default is dataclasses.MISSING:
+            raise Trouble(path, f"programs.{known.name} is empty", "leave it out: the program that is installed is taken then")
 
 
 def read_settings(path: Path, wanted: Any, document: str) -> object:

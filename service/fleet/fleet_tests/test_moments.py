@@ -797,6 +797,26 @@ def test_metrics_before_any_were_taken() -> None:
     assert told.name == "wmbus_fleet_figures_age_seconds" and told.samples[0].value < LIMIT
 
 
+@pytest.mark.parametrize("text, words", [
+    ('[programs]\nsteps = "/opt/tim\'s/wmbus steps"', "programs.steps isn't a command"),
+    ('[programs]\naddress_list = ""', "programs.address_list is empty"),
+    ('database = "host=db password=very secret"', "database isn't in libpq's words"),
+    ('database = "postgresql://wmbus:se%cret@db/wmbus"', "database isn't in libpq's words")])
+def test_a_setting_that_cant_be(tmp_path: Path, text: str, words: str) -> None:
+    """It is named, without what may be a part of a password."""
+    (tmp_path / "fleet.toml").write_text(text)
+    with pytest.raises(Trouble, match=words) as told:
+        read_config(tmp_path / "fleet.toml")
+    assert "cret" not in str(told.value)
+
+
+@pytest.mark.parametrize("host", ["node1 node2:5672x", "node1:", "::1"])
+def test_a_port_of_a_node_that_cant_be(host: str) -> None:
+    """It is named, and no other port is taken in its place."""
+    with pytest.raises(Trouble, match="no port"), broker.connected(Broker(host)):
+        pass
+
+
 def test_no_core_file(tmp_path: Path) -> None:
     """Where a part dies of a fault none is left, in which keys would stand: neither as a file, of which the limit is 0, nor by what takes core
     files through a pipe, which that doesn't hold (core(5)), and which gets none of a process that can't be dumped (prctl(2))."""
