@@ -706,6 +706,32 @@ def test_words_that_are_no_text(fleet: Fleet, tmp_path: Path, monkeypatch: pytes
     assert "UTF-8" in capsys.readouterr().err
 
 
+def test_no_proxy_has_the_administrators_password(monkeypatch: pytest.MonkeyPatch) -> None:
+    """Whatever the environment names for the way to others."""
+    monkeypatch.setattr("wmbus_fleet.administration.PATIENCE", 2.0)
+    for name in ("no_proxy", "NO_PROXY"):
+        monkeypatch.delenv(name, raising=False)
+    with socket.create_server(("127.0.0.1", 0)) as proxy:
+        monkeypatch.setenv("http_proxy", f"http://127.0.0.1:{proxy.getsockname()[1]}")
+        with pytest.raises(Trouble, match="management"):
+            Administration(Broker(management="http://127.0.0.1:1")).depths()
+        proxy.setblocking(False)
+        with pytest.raises(BlockingIOError):
+            proxy.accept()
+
+
+def test_something_else_at_the_address_of_the_management() -> None:
+    """It is named, without a trace."""
+    with socket.create_server(("127.0.0.1", 0)) as server:
+        def answer() -> None:
+            with server.accept()[0] as asked:
+                asked.recv(1 << 16)
+                asked.sendall(b"HTTP/1.0 200 OK\r\n\r\n<html>")
+        threading.Thread(target=answer, daemon=True).start()
+        with pytest.raises(Trouble, match="management"):
+            Administration(Broker(management=f"http://127.0.0.1:{server.getsockname()[1]}")).depths()
+
+
 @pytest.mark.parametrize("address", ["http://127.0.0.1:port", "http://a b:15672", "http://[::1", "http://house..net:15672"])
 def test_an_address_of_the_management_that_cant_be(address: str) -> None:
     """It is named, without a trace."""
