@@ -756,6 +756,50 @@ def test_who_reads_the_configuration(tmp_path: Path) -> None:
     assert (tmp_path / "etc/wmbus/fleet.toml").stat().st_mode & 0o777 == 0o644
 
 
+def test_an_installation_under_a_strict_umask(tmp_path: Path) -> None:
+    """Whatever the umask of who installs is, as 077 of root's on many machines, the user of the parts can read all and start the programs."""
+    for folder in ("usr/lib/wmbus/wmbus_service", "usr/bin", "lib/systemd/system", "etc/wmbus"):
+        (tmp_path / folder).mkdir(parents=True)
+    run(["sh", "-c", f"umask 077; exec sh {Path(__file__).parents[1]}/install {tmp_path}"])
+    package = tmp_path / "usr/lib/wmbus/wmbus_fleet"
+    found = [package, *package.rglob("*"), *(it for it in tmp_path.rglob("*") if it.is_file())]
+    assert len(found) > 40
+    for path in found:
+        wanted = 0o755 if path.is_dir() or os.access(path, os.X_OK) else 0o644
+        assert path.stat().st_mode & 0o777 == wanted, path
+
+
+def of_the_package(folder: Path, name: str) -> Path:
+    """What Debian's package manager starts for a package, over a folder of the test's own in the place of the system's."""
+    text = (Path(__file__).parents[1] / "debian" / name).read_text(encoding="utf-8")
+    for place in ("/etc/systemd/system", "/usr/lib/wmbus", "/run/systemd/system"):
+        text = text.replace(place, f"{folder}{place}")
+    (folder / "script").write_text(text)
+    return folder / "script"
+
+
+@pytest.mark.parametrize("package, gone", [
+    ("gateway", ["wmbus-gateway"]),
+    ("server", ["wmbus-intake@0", "wmbus-intake@1", "wmbus-sessions@0", "wmbus-downlinks", "wmbus-fleet-page", "wmbus-fleet-metrics"])])
+def test_a_purge_and_units(tmp_path: Path, package: str, gone: list[str]) -> None:
+    """What `systemctl enable` made goes too, so that what is installed anew starts nothing; other packages' units stay."""
+    wants = tmp_path / "etc/systemd/system/multi-user.target.wants"
+    wants.mkdir(parents=True)
+    for name in ("wmbus", "ssh", *gone):
+        (wants / f"{name}.service").symlink_to(f"/lib/systemd/system/{name}.service")
+    run(["sh", of_the_package(tmp_path, f"{package}/postrm"), "purge"])
+    assert {path.stem for path in wants.iterdir()} == {"wmbus", "ssh"}
+
+
+@pytest.mark.parametrize("is_there", [True, False])
+def test_a_removal(tmp_path: Path, is_there: bool) -> None:
+    """The package can be removed also where somebody took its folder away before; what Python made of its files goes."""
+    if is_there:
+        (tmp_path / "usr/lib/wmbus/wmbus_fleet/view/__pycache__").mkdir(parents=True)
+    run(["sh", of_the_package(tmp_path, "fleet/prerm"), "remove"])
+    assert not list(tmp_path.rglob("__pycache__"))
+
+
 def test_a_queue_that_is_gone(fleet: Fleet) -> None:
     """The metrics have those of the other areas, and don't say that the broker is down."""
     taken, areas = metrics.Taken(), ["an-area-without", fleet.area]
