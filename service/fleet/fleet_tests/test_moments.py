@@ -483,6 +483,14 @@ def test_a_line_that_is_far_too_long() -> None:
     assert frames_in(["A 1 00", "A 1 " + 200_000 * "0"]) == [(1, "A 1 00"), (2, ("A 1 " + 200_000 * "0")[:LONGEST])]
 
 
+def test_a_stranger_that_was_commissioned(fleet: Fleet) -> None:
+    """It is known, however often it was heard before."""
+    rows = [(fleet.meters[0].name, 30, "gw", NOW), (16 * "0", 2, "gw", NOW)]
+    store.copy_rows(fleet.database, "stranger (address, times, gateway, last_made)", rows)
+    told = [line for line in in_words(figures(fleet.database)) if "not known" in line]
+    assert told == [f"heard 2 times, and not known: {16 * '0'}"]
+
+
 @pytest.mark.parametrize("said, lacking", [((1, 3, 4), 2), ((2, 3), 1)])
 def test_a_gap_behind_which_a_gateway_goes_on(fleet: Fleet, said: tuple[int, ...], lacking: int) -> None:
     """It is asked again with each message that it sends, and named all the same."""
