@@ -895,6 +895,13 @@ def test_a_port_of_a_node_that_cant_be(host: str) -> None:
         pass
 
 
+@pytest.mark.parametrize("content", ["a secret", "a secret\n", "a secret\r\n"])
+def test_the_brokers_password(tmp_path: Path, content: str) -> None:
+    """It is what stands in its file, however an editor ends a line."""
+    (tmp_path / "broker.password").write_text(content, newline="")
+    assert broker.password_of(Broker(password_file=str(tmp_path / "broker.password"))) == "a secret"
+
+
 def test_no_core_file(tmp_path: Path) -> None:
     """Where a part dies of a fault none is left, in which keys would stand: neither as a file, of which the limit is 0, nor by what takes core
     files through a pipe, which that doesn't hold (core(5)), and which gets none of a process that can't be dumped (prctl(2))."""
