@@ -425,6 +425,20 @@ def test_late_ticks_of_the_metrics(fleet: Fleet) -> None:
         assert metrics.take(fleet.config).gauges["ticks_late"] == count == figures(fleet.database)["ticks_late"]
 
 
+def test_no_code_of_a_meter_can_be_read(fleet: Fleet) -> None:
+    """Access codes, passwords and keys are among the unknown quantities: what was sent of these stands in no view of the page's, nor in those
+    of a release that showed it."""
+    now = store.one(fleet.database, "select pg_get_viewdef('page.record'::regclass)")
+    before = re.sub("CASE .* END AS raw", "(e.it ->> 'raw'::text) AS raw", now, flags=re.DOTALL)
+    fleet.database.execute(f"create or replace view page.record as {before}")
+    store.init(fleet.config.database)
+    told = {"unit": "-", "exponent": 0, "function": "instantaneous", "storage": 0, "tariff": 0, "subunit": 0, "modifiers": "", "raw": "00ff"}
+    records = [{"quantity": "unknown", "value": "raw"} | told, {"quantity": "volume", "value": "65280"} | told]
+    store.copy_rows(fleet.database, "reading (line, address, counter, moment, payload, more, records, made)",
+                    [(1, fleet.meters[0].name, 1, 1, "", False, json.dumps(records), NOW)])
+    assert store.pairs(fleet.database, "select quantity, raw from page.record") == {"unknown": "", "volume": "00ff"}
+
+
 def test_which_queue_went(fleet: Fleet) -> None:
     """Of several that a process listens to the one is named."""
     with broker.connected(fleet.config.broker) as connection:

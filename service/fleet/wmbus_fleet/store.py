@@ -58,8 +58,8 @@ def init(words: str) -> None:
             elif version == 1:
                 database.execute(schema.SECOND + page_tables.VIEWS)
             elif version == schema.VERSION:
-                # (the first releases of this version counted ticks that wait too)
-                database.execute(page_tables.LATE)
+                # (the first releases of this version counted ticks that wait too, and showed what meters send of unknown quantities)
+                database.execute(page_tables.LATE + page_tables.RECORD)
             if version in (None, 1):
                 set_setting(database, "version", str(schema.VERSION))
 
