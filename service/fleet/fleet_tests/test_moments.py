@@ -545,6 +545,21 @@ def test_a_copy_of_something_else(fleet: Fleet, restored: Config, tmp_path: Path
         backup.restore(restored, tmp_path / "copy", 50)
 
 
+def test_a_database_of_another_encoding(fleet: Fleet, restored: Config, tmp_path: Path) -> None:
+    """As `createdb` alone makes it on a machine without a locale: that is said before anything is put into it, which nobody could work over."""
+    name = f"{fleet.area.split('-')[0]}d"
+    with psycopg.connect(fleet.config.database, autocommit=True) as database:
+        database.execute(f"create database {name} encoding 'SQL_ASCII' template template0")
+    told = replace(restored, database=fleet.both.postgres.words(name))
+    backup.back_up(fleet.config, tmp_path / "copy")
+    with pytest.raises(Trouble, match="SQL_ASCII.*UTF8"):
+        store.init(told.database)
+    with pytest.raises(Trouble, match="SQL_ASCII.*UTF8"):
+        backup.restore(told, tmp_path / "copy", 50)
+    with psycopg.connect(told.database) as database:
+        assert database.execute("select count(*) from pg_tables where schemaname = 'public'").fetchone() == (0,)
+
+
 def test_a_margin_that_cant_be(fleet: Fleet, restored: Config, tmp_path: Path) -> None:
     """It is named before anything is put into the database, which takes long and wants another empty one behind it."""
     backup.back_up(fleet.config, tmp_path / "copy")

@@ -60,6 +60,7 @@ def restore(config: Config, source: Path, margin: int) -> int:
     with psycopg.connect(config.database, autocommit=True) as database:
         if store.one(database, "select to_regclass('setting')") is not None:
             raise Trouble("the database", "it has tables already", "name a new, empty one in the configuration")
+        store.look_at_encoding(database)
         # (as long as this table is there no part works over the copy)
         database.execute("create table if not exists restoring ()")
     _done(["pg_restore", "--single-transaction", "--no-owner", "--exit-on-error", str(source)], config.database)
