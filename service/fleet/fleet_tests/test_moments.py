@@ -505,6 +505,14 @@ def test_a_stranger_that_was_commissioned(fleet: Fleet) -> None:
     assert told == [f"heard 2 times, and not known: {16 * '0'}"]
 
 
+@pytest.mark.parametrize("asked", ["überlingen", "Überlingen", "ÜBERL"])
+def test_a_search_for_other_letters(fleet: Fleet, asked: str) -> None:
+    """Large or small, whatever the locale of the database; this one has that of C, which knows the letters of ASCII alone."""
+    fleet.database.execute("update meter set name = 'Überlingen, Haus 5' where address = %s", (fleet.meters[1].name,))
+    found: Any = create_app(fleet.config).test_client().get("/api/meters", query_string={"q": asked}).get_json()
+    assert [it["address"] for it in found["meters"]] == [fleet.meters[1].name]
+
+
 @pytest.mark.parametrize("said, lacking", [((1, 3, 4), 2), ((2, 3), 1)])
 def test_a_gap_behind_which_a_gateway_goes_on(fleet: Fleet, said: tuple[int, ...], lacking: int) -> None:
     """It is asked again with each message that it sends, and named all the same."""
