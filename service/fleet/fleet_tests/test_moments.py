@@ -513,6 +513,25 @@ def test_a_search_for_other_letters(fleet: Fleet, asked: str) -> None:
     assert [it["address"] for it in found["meters"]] == [fleet.meters[1].name]
 
 
+def test_who_gets_into_a_postgresql_of_ones_own(both: Both) -> None:
+    """No other user of the machine: its superuser has programs started in the name of who started it."""
+    told = {name: value for name, value in conninfo_to_dict(both.postgres.words("postgres")).items() if name != "password"}
+    with pytest.raises(psycopg.OperationalError, match="password"):
+        psycopg.connect(make_conninfo(**told)).close()
+
+
+def test_a_postgresql_that_cant_be_made(monkeypatch: pytest.MonkeyPatch) -> None:
+    """As where the disk is full: it is said in words, without a trace."""
+    with TemporaryDirectory() as place:
+        folder = Path(place)
+        folder.chmod(0o711)
+        stand_ins(folder, initdb="echo 'initdb: error: No space left on device' >&2; exit 1")
+        (folder / "initdb").chmod(0o755)
+        monkeypatch.setattr(own_servers, "POSTGRES", folder)
+        with pytest.raises(Trouble, match="No space left"):
+            own_servers.Postgres(folder)
+
+
 @pytest.mark.parametrize("said, lacking", [((1, 3, 4), 2), ((2, 3), 1)])
 def test_a_gap_behind_which_a_gateway_goes_on(fleet: Fleet, said: tuple[int, ...], lacking: int) -> None:
     """It is asked again with each message that it sends, and named all the same."""

@@ -182,7 +182,7 @@ def test_forms_need_the_token(shown: Shown) -> None:
 def test_the_pages_role_reads_no_key(shown: Shown) -> None:
     """A role of the server's own for the page reads what the page shows, and neither keys nor frames, and changes nothing."""
     with psycopg.connect(shown.made.config.database, autocommit=True) as database:
-        database.execute("create role looker login")
+        database.execute(f"create role looker login password '{shown.both.postgres.password}'")
     words = shown.both.postgres.words("shown", "looker")
     app = create_app(type(shown.made.config)(database=words)).test_client()
     for path in ("/", "/meters", f"/meters/{shown.made.town.meters[0].address.hex()}", "/gateways", "/areas/shown-south", "/strangers"):
