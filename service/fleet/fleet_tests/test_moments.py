@@ -985,6 +985,31 @@ def test_a_gateways_name_that_none_can_have(tmp_path: Path, name: str, area: str
         gateway.run(Config(), Gateway(name, area, "radio"), service, ending)
 
 
+def test_a_gateway_beside_the_service_of_one_machine(tmp_path: Path, monkeypatch: pytest.MonkeyPatch) -> None:
+    """Each would take lines from the other: whichever comes second says so. Gateways of several receivers are beside each other."""
+    service, ending, begun = ServiceConfig(tmp_path / "service", receivers={"radio": Receiver()}), Ending(), 0
+    ending.set()
+    prepare_folder(service.folder)
+
+    def begin(name: str) -> None:
+        gateway.run(Config(), Gateway(name, "north", "radio"), service, ending)
+    held = lock(service.folder)
+    with pytest.raises(Trouble, match="another service"):
+        begin("gw1")
+    os.close(held)
+
+    def run(_self: Agent, _ending: Ending) -> None:
+        nonlocal begun
+        begun += 1
+        with pytest.raises(Trouble, match="another service"):
+            lock(service.folder)
+        if begun == 1:
+            begin("gw2")
+    monkeypatch.setattr(Agent, "run", run)
+    begin("gw1")
+    assert begun == 2
+
+
 def test_an_intake_of_an_area_that_there_is_none_of(fleet: Fleet, caplog: pytest.LogCaptureFixture) -> None:
     """As by a slip of the pen: it says so, in place of waiting at a queue of its own while the messages of the area wait in theirs."""
     ending = Ending()

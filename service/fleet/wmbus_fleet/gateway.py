@@ -2,6 +2,7 @@
 wait armed until their meter is heard."""
 from __future__ import annotations
 
+import fcntl
 import logging
 import os
 import random
@@ -18,6 +19,7 @@ from wmbus_service.config import NAME, words_of
 from wmbus_service.config import Config as ServiceConfig
 from wmbus_service.downlinks import write_downlink
 from wmbus_service.ending import Ending
+from wmbus_service.service import lock
 from wmbus_service.spool import Spool, Spooled, put_places
 from wmbus_service.steps import ProgramFailed
 from wmbus_service.trouble import Trouble
@@ -282,9 +284,19 @@ def run(config: Config, told: Gateway, service: ServiceConfig, ending: Ending) -
     if told.receiver not in service.receivers:
         raise Trouble("gateway.receiver", f"the service's configuration has no receiver {told.receiver}", f"see {told.service}")
     store.prepare_folder(service.folder)
-    path = service.folder / f"gateway.{told.name}.db"
+    # (the service on one machine would take its lines away; gateways of other receivers don't)
+    held = lock(service.folder, fcntl.LOCK_SH)
     try:
-        database = open_gateway(path, time.time())
+        with closing(_opened(service.folder / f"gateway.{told.name}.db")) as database:
+            Agent(config, told, service, database).run(ending)
+    finally:
+        os.close(held)
+
+
+def _opened(path: Path) -> sqlite3.Connection:
+    """A gateway's database; what is wrong with it in words."""
+    try:
+        return open_gateway(path, time.time())
     except sqlite3.Error as fault:
         raise Trouble(path, f"the gateway's database can't be opened: {fault}",
                       "look at its disk; where it isn't whole take it away, and the receiver's lines in the spool with it") from None
