@@ -532,6 +532,17 @@ def test_a_postgresql_that_cant_be_made(monkeypatch: pytest.MonkeyPatch) -> None
             own_servers.Postgres(folder)
 
 
+def test_a_gateway_without_a_radio_that_sends(house: House, caplog: pytest.LogCaptureFixture) -> None:
+    """Its log says why a downlink doesn't go out."""
+    draw = random.Random(1)
+    meter = some_meters(draw, 1)[0]
+    house.agent.radio = ""
+    arm(house.database, Down(meter.name, 5, "05", 100), NOW + 30)
+    house.hear([line_of(next_telegrams(draw, meter)[0], 1).strip()])
+    assert house.agent.number(NOW + 40) == 1
+    assert [it.getMessage() for it in caplog.records if "names no `downlinks`" in it.getMessage()]
+
+
 @pytest.mark.parametrize("said, lacking", [((1, 3, 4), 2), ((2, 3), 1)])
 def test_a_gap_behind_which_a_gateway_goes_on(fleet: Fleet, said: tuple[int, ...], lacking: int) -> None:
     """It is asked again with each message that it sends, and named all the same."""

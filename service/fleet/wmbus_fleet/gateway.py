@@ -198,7 +198,8 @@ class Agent:
                 if self.written.get(address) != down:
                     write_downlink(self.radio, frame)
             except OSError as fault:
-                log.warning("%s: the downlink %d of meter %s can't be sent: %s", self.told.name, down, address, fault.strerror)
+                why = fault.strerror if self.radio else "the receiver's configuration names no `downlinks`"
+                log.warning("%s: the downlink %d of meter %s can't be sent: %s", self.told.name, down, address, why)
                 continue
             self.written[address] = down
             self.database.execute("update armed set sent = ? where address = ?", (now, address))
