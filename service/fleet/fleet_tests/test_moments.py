@@ -160,6 +160,34 @@ def test_nothing_is_searched_in_a_gateways_messages(house: House) -> None:
     assert steps < 20
 
 
+def test_an_epoch_without_numbers(house: House) -> None:
+    """Nothing is numbered until the broker has all of its messages; then another one begins."""
+    house.database.execute("update numbering set last = ?", (LAST,))
+    house.database.execute("update message set acknowledged = 0 where number = 3")
+    house.hear(["A 9 00"])
+    assert house.agent.number(NOW + 40) == 0 and house.agent.numbering() == (int(NOW), LAST)
+    house.database.execute("update message set acknowledged = 1")
+    assert house.agent.number(NOW + 40) == 1 and house.agent.numbering() == (int(NOW) + 40, 1)
+    assert house.messages() == {1: (b"A 9 00\n", False)}
+
+
+def test_an_epoch_that_begins_with_many_messages(house: House) -> None:
+    """As behind a fleet's copy that is older than a week, of which a gateway may have more than its machine has memory."""
+    rows = [(number, 100_000 * b"0", NOW, NOW) for number in range(5, 205)]
+    house.database.executemany("insert into message (number, lines, until, made) values (?, ?, ?, ?)", rows)
+    house.database.execute("delete from message where number < 3")
+    house.database.execute("update numbering set last = 204")
+    del rows
+    tracemalloc.start()
+    house.agent.send_again(Again("gw1", int(NOW), 2), NOW + 30)
+    (_, most) = tracemalloc.get_traced_memory()
+    tracemalloc.stop()
+    assert most < 1_000_000
+    assert house.agent.numbering() == (int(NOW) + 30, 201)
+    assert [(number, len(lines), is_done) for number, (lines, is_done) in house.messages().items()][:3] == [
+        (1, 7, False), (2, 100_000, False), (3, 100_000, False)]
+
+
 def test_a_full_disk_has_a_downlink_go_out_once(house: House) -> None:
     """What can't be committed is tried again and again, and the radio doesn't send with it."""
     draw = random.Random(1)

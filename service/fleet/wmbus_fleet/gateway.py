@@ -117,7 +117,7 @@ class Agent:
         if self.database.execute("select 1 from message where not acknowledged limit 1").fetchone():
             return True
         with store.transaction(self.database):
-            self._begin(epoch + 1, [], now)
+            self._begin(epoch + 1, last + 1, now)
         return False
 
     def numbering(self) -> tuple[int, int]:
@@ -157,7 +157,7 @@ class Agent:
             epoch, last = self.numbering()
             if asked.epoch > epoch:
                 # (its state is older than what the fleet knows: nothing of this epoch was taken)
-                self._begin(asked.epoch + 1, self._kept_from(1), now)
+                self._begin(asked.epoch + 1, 1, now)
                 return
             number = asked.number if asked.epoch == epoch else 1
             if number > last:
@@ -165,19 +165,17 @@ class Agent:
             if self.database.execute("select 1 from message where number = ?", (number,)).fetchone():
                 self.database.execute("update message set acknowledged = 0 where number >= ?", (number,))
             else:
-                self._begin(epoch + 1, self._kept_from(number), now)
+                self._begin(epoch + 1, number, now)
 
-    def _kept_from(self, number: int) -> list[tuple[bytes, int, float]]:
-        """The messages from this one on that are kept."""
-        return self.database.execute("select lines, until, made from message where number >= ? order by number", (number,)).fetchall()
-
-    def _begin(self, epoch: int, rows: Sequence[tuple[bytes, int, float]], now: float) -> None:
-        """Begins an epoch with these messages."""
-        self.database.execute("delete from message")
-        self.database.executemany("insert into message (number, lines, until, made) values (?, ?, ?, ?)",
-                                  [(place, *row) for place, row in enumerate(rows, 1)])
-        self.database.execute("update numbering set epoch = ?, last = ?", (max(epoch, int(now)), len(rows)))
-        log.warning("%s: an epoch begins with %d messages that are kept", self.told.name, len(rows))
+    def _begin(self, epoch: int, first: int, now: float) -> None:
+        """Begins an epoch with the messages from this one on that are kept. (Each stays where it is: a week of them has no room in the
+        memory of a small machine.)"""
+        self.database.execute("delete from message where number < ?", (first,))
+        kept = self.database.execute("select number from message order by number").fetchall()
+        self.database.executemany("update message set number = ?, acknowledged = 0 where number = ?",
+                                  [(place, number) for place, (number,) in enumerate(kept, 1)])
+        self.database.execute("update numbering set epoch = ?, last = ?", (max(epoch, int(now)), len(kept)))
+        log.warning("%s: an epoch begins with %d messages that are kept", self.told.name, len(kept))
 
     # ---- downlinks
 
@@ -301,5 +299,3 @@ def _opened(path: Path) -> sqlite3.Connection:
     except sqlite3.Error as fault:
         raise Trouble(path, f"the gateway's database can't be opened: {fault}",
                       "look at its disk; where it isn't whole take it away, and the receiver's lines in the spool with it") from None
-    with closing(database):
-        Agent(config, told, service, database).run(ending)
