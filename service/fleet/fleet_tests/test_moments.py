@@ -926,6 +926,16 @@ def test_words_of_a_demo_that_cant_be(monkeypatch: pytest.MonkeyPatch, seconds: 
         demo.run(10, seconds, port, Ending(), print)
 
 
+def test_a_large_roster_with_a_fault(fleet: Fleet, monkeypatch: pytest.MonkeyPatch) -> None:
+    """None of its meters is added, as of a short one, and it is said where the fault is."""
+    for module in ("wmbus_service.meters", "wmbus_fleet.commands"):
+        monkeypatch.setattr(f"{module}.PIECE", 2)
+    *lines, last = roster_of(some_meters(random.Random(4), 5)).splitlines()
+    with pytest.raises(Trouble, match="the roster, behind its first 4 meters: .*line 3"):
+        commands.take_roster(fleet.config, fleet.database, "\n".join([*lines, f"{last}x"]), "the roster")
+    assert store.one(fleet.database, "select count(*) from meter") == 3
+
+
 def test_a_roster_from_the_standard_input(fleet: Fleet, tmp_path: Path, monkeypatch: pytest.MonkeyPatch) -> None:
     """It is taken as the same file is, whatever signs stand in its comments."""
     told, roster = tmp_path / "fleet.toml", roster_of(some_meters(random.Random(3), 5))
