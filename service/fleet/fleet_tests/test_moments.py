@@ -366,6 +366,15 @@ def test_a_copy_that_could_never_be_put_back(tmp_path: Path, monkeypatch: pytest
     assert not list(tmp_path.glob("copy*"))
 
 
+def test_a_copy_stands_on_the_disk(tmp_path: Path, monkeypatch: pytest.MonkeyPatch) -> None:
+    """Where the machine's power goes behind it, it is there, under its name."""
+    synced: list[str] = []
+    monkeypatch.setattr("wmbus_service.backup.sync", lambda opened: synced.append(os.readlink(f"/proc/self/fd/{opened}")))
+    monkeypatch.setenv("PATH", stand_ins(tmp_path, pg_dump="", pg_restore=f"echo '{backup.INBOX}'"))
+    backup.back_up(Config(), tmp_path / "copy")
+    assert synced == [f"{tmp_path}/copy.making", str(tmp_path)]
+
+
 def test_a_copy_that_is_ended(tmp_path: Path) -> None:
     """As by a timer whose time is over: no part of it is left, which has keys."""
     path = stand_ins(tmp_path, pg_dump=f"touch {tmp_path}/begun; exec sleep 600")
