@@ -272,6 +272,25 @@ def test_what_is_too_large_costs_no_memory() -> None:
     assert most < len(body)
 
 
+def test_a_batch_of_many_areas(fleet: Fleet, monkeypatch: pytest.MonkeyPatch) -> None:
+    """Of each area the broker gives as many messages as an intake has in hand; no batch has more than that, since the program takes 131,072
+    lines at most (docs/FORMATS.md, "Exit statuses")."""
+    monkeypatch.setattr("wmbus_fleet.intake.PREFETCH", 3)
+    areas = [fleet.area, f"{fleet.area}2"]
+    commands.add_area(fleet.config, fleet.database, areas[1])
+    with broker.connected(fleet.config.broker) as connection:
+        consuming, channel = Consuming(Intake(fleet.config, fleet.database, "test"), connection, areas), broker.opened(connection)
+        for area in areas:
+            for number in (1, 2, 3):
+                broker.publish(channel, broker.EXCHANGE, broker.up_key(area, "gw"), lines_body(5, number, 9, b""))
+
+        def are_given() -> bool:
+            connection.process_data_events(0.05)
+            return len(consuming.held) == 6
+        until(are_given)
+        assert [consuming.turn(), consuming.turn()] == [3, 3]
+
+
 def test_a_number_that_no_message_has(fleet: Fleet) -> None:
     """Its message is left, and counted by the gateway's name."""
     assert read_lines("up.north.gw1", b"wmbus-lines 1 5 4294967295 9\n") == Message("gw1", 5, 4294967295, 9, ())

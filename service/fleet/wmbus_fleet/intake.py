@@ -185,7 +185,7 @@ class Consuming:
         lines = 0
         for count, (_, _, message) in enumerate(self.held):
             lines += len(message.lines) if message else 0
-            if count and lines > MOST:
+            if count and lines > MOST or count == PREFETCH:
                 return count
         return len(self.held)
 
