@@ -944,6 +944,44 @@ def test_metrics_without_the_brokers_password(fleet: Fleet) -> None:
     assert taken.gauges["meters"] == 3.0 and taken.gauges["broker_up"] == 0.0
 
 
+def test_a_demo_on_a_slow_machine(monkeypatch: pytest.MonkeyPatch) -> None:
+    """It is waited as long as telegrams are heard, however long all of them take."""
+    heard, clock = itertools.count(), itertools.count(0, 50)
+    monkeypatch.setattr(Demo, "heard", lambda _self: next(heard))
+    monkeypatch.setattr(Demo, "look_at_parts", lambda _self: None)
+    monkeypatch.setattr(demo, "time", SimpleNamespace(monotonic=lambda: next(clock)))
+    monkeypatch.setattr(Ending, "wait", lambda *_: False)
+    object.__new__(Demo).wait(9, Ending(), lambda _words: None)
+
+
+def test_a_demo_in_a_folder_with_modules(tmp_path: Path, monkeypatch: pytest.MonkeyPatch) -> None:
+    """What lies where it is started, under the name of a module of Python's, is none of its parts'."""
+    started_with: list[Any] = []
+    monkeypatch.setattr(lifeline, "started", lambda *words: started_with.extend(words))
+    (tmp_path / "random.py").write_text("raise SystemExit(7)")
+    made = object.__new__(Demo)
+    vars(made).update(folder=tmp_path, parts=[])
+    made._start(tmp_path / "fleet.toml", "intake")
+    words, _, environment = started_with
+    assert run([*words, "--help"], cwd=tmp_path, env=environment, check=False).returncode == 0
+
+
+def test_a_demo_that_lags(monkeypatch: pytest.MonkeyPatch) -> None:
+    """What has long been due is sent no further once it is told to end."""
+    made, ending, sent = object.__new__(Demo), Ending(), []
+
+    def spool(_self: Demo, lines: Any) -> None:
+        sent.append(lines)
+        assert len(sent) < 9
+        ending.set()
+    monkeypatch.setattr(Demo, "_spool", spool)
+    monkeypatch.setattr(Demo, "answer", lambda _self: True)
+    monkeypatch.setattr(Demo, "look_at_parts", lambda _self: None)
+    vars(made).update(seconds=1e-9, town=SimpleNamespace(meters=[0], sent=lambda *_: ()))
+    made.go_on(ending)
+    assert len(sent) == 1
+
+
 @pytest.mark.parametrize("seconds, port", [(float("nan"), 9103), (30.0, 70_000), (30.0, -1)])
 def test_words_of_a_demo_that_cant_be(monkeypatch: pytest.MonkeyPatch, seconds: float, port: int) -> None:
     """They are named before servers start."""
