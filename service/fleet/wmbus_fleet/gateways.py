@@ -51,6 +51,7 @@ def put_files(config: Config, folder: Path, area: str, name: str) -> str:
     password = secrets.token_urlsafe(24)
     settings = f"""# the gateway {name} (docs/FLEET.md); beside it stands config.toml with its receiver
 [broker]
+# as the server itself reaches the broker: for 127.0.0.1 write its name, and over a network its port with TLS and tls = true
 host = "{config.broker.host}"
 port = {config.broker.port}
 user = "{name}"
