@@ -166,7 +166,8 @@ def test_forms_need_the_token(shown: Shown) -> None:
     assert client.post(f"/meters/{meter}/commands", data={"forms": word, "payload": "01", "id": "p1"}).status_code == 303
     assert client.post(f"/meters/{meter}/commands/cancel", data={"forms": word, "id": "p1"}).status_code == 303
     other = shown.made.town.meters[2].address.hex()
-    assert client.post(f"/meters/{other}/commands/cancel", data={"forms": word, "id": "p1"}).status_code == 400
+    for address, ident in ((other, "p1"), (meter, "p1\0"), (f"{meter}%00", "p1")):
+        assert client.post(f"/meters/{address}/commands/cancel", data={"forms": word, "id": ident}).status_code == 400
     neighbour = made.town.neighbour
     asked = {"forms": word, "address": neighbour.address.hex(), "mode": "7", "key": neighbour.key.hex(), "name": "Next door"}
     assert client.post("/strangers/add", data=asked).status_code == 303
