@@ -723,13 +723,19 @@ def test_a_password_that_is_no_text(tmp_path: Path) -> None:
         broker.password_of(Broker(password_file=str(tmp_path / "password")))
 
 
-def test_a_gateways_file_that_isnt_whole(tmp_path: Path) -> None:
-    """It is named, with what to do."""
+@pytest.mark.parametrize("is_whole", [False, True])
+def test_a_gateways_file_that_cant_be_opened(tmp_path: Path, is_whole: bool) -> None:
+    """It is named, with what to do; it is taken away, and what wasn't sent with it, where it isn't whole alone."""
     service = ServiceConfig(tmp_path / "service", receivers={"radio": Receiver()})
     prepare_folder(service.folder)
-    (service.folder / "gateway.gw1.db").write_bytes(1000 * b"no database")
-    with pytest.raises(Trouble, match="gateway.gw1.db"):
+    path = service.folder / "gateway.gw1.db"
+    if is_whole:
+        path.mkdir()
+    else:
+        path.write_bytes(1000 * b"no database")
+    with pytest.raises(Trouble, match="gateway.gw1.db.*" + ("owner" if is_whole else "take it away")) as told:
         gateway.run(Config(), Gateway("gw1", "north", "radio"), service, Ending())
+    assert ("take it away" in str(told.value)) is not is_whole
 
 
 def test_a_servers_clock_that_is_set_back(fleet: Fleet) -> None:

@@ -297,5 +297,7 @@ def _opened(path: Path) -> sqlite3.Connection:
     try:
         return open_gateway(path, time.time())
     except sqlite3.Error as fault:
+        is_whole = not str(getattr(fault, "sqlite_errorname", "")).startswith(("SQLITE_CORRUPT", "SQLITE_NOTADB"))
         raise Trouble(path, f"the gateway's database can't be opened: {fault}",
-                      "look at its disk; where it isn't whole take it away, and the receiver's lines in the spool with it") from None
+                      "look at its disk, its owner and its rights" if is_whole
+                      else "take it away, and the receiver's lines in the spool with it") from None
