@@ -24,7 +24,7 @@ log = logging.getLogger("wmbus")
 # so many messages in hand (2,000 gateways send a thousand a second), so many lines a transaction
 PREFETCH, MOST = 800, 4000
 LOOK, PAUSE = 0.05, 0.5
-SET_BACK = "a message of later moments under a number that was taken before (its file or its clock was set back)"
+SLACK, SET_BACK = 60, "a message of later moments under a number that was taken before (its file or its clock was set back)"
 # a gateway is asked again where nothing came of it
 ASKED_SECONDS = 2
 
@@ -75,7 +75,8 @@ class Intake:
         if not again:
             return Counter()
         rows = self.database.execute("select name, epoch, until from gateway where name = any(%s)", ([it.gateway for it in again],))
-        last = {name: (epoch, until) for name, epoch, until in rows.fetchall()}
+        # (a clock is set right by some seconds again and again)
+        last = {name: (epoch, until + SLACK) for name, epoch, until in rows.fetchall()}
         return Counter((it.gateway, SET_BACK) for it in again if it.epoch == last[it.gateway][0] and it.until > last[it.gateway][1])
 
     def _asked(self, fences: Mapping[str, Fence], messages: Sequence[Message], answers: Sequence[str]) -> list[Again]:
