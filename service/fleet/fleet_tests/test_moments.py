@@ -1046,6 +1046,27 @@ def test_where_no_metrics_can_be(told: Metrics) -> None:
         metrics.run(Config(metrics=told), Ending())
 
 
+def test_what_metrics_lack_is_said_once(fleet: Fleet, monkeypatch: pytest.MonkeyPatch, caplog: pytest.LogCaptureFixture) -> None:
+    """And anew once it was there meanwhile: they are taken four times a minute, over a weekend without a database too."""
+    ending, turns, nowhere = Ending(), 0, Broker(port=1)
+    take = metrics.take
+
+    def taken(_config: Config) -> metrics.Taken:
+        nonlocal turns
+        turns += 1
+        if turns == 8:
+            ending.set()
+        if turns in (1, 2):
+            raise psycopg.OperationalError("no database")
+        return take(fleet.config if turns in (5, 6) else replace(fleet.config, broker=nowhere))
+    monkeypatch.setattr(metrics, "take", taken)
+    monkeypatch.setattr(metrics, "INTERVAL", 0.01)
+    monkeypatch.setattr(metrics, "start_http_server", lambda *_, **__: None)
+    metrics.run(fleet.config, ending)
+    said = [it.getMessage() for it in caplog.records if it.getMessage().startswith("the metrics: ")]
+    assert ["no database" in it for it in said] == [True, False, False] and all("port 1" in it for it in said[1:])
+
+
 def test_metrics_before_any_were_taken() -> None:
     """No counter is 0 for a moment, as behind a start of the process: what comes next would be taken for a rise of all that ever was."""
     (told,) = [it for it in metrics.Figures().collect() if it.samples]

@@ -192,8 +192,8 @@ class Consuming:
         return count
 
     def _count(self) -> int:
-        """How many messages the batch has, one at least: no more messages and lines than one transaction takes. (The broker gives so many of
-        each area.)"""
+        """How many messages the batch has, one at least: no more messages and lines than one transaction takes. (Of each area the broker
+        gives so many.)"""
         lines = 0
         for count, (_, _, message) in enumerate(self.held):
             lines += len(message.lines) if message else 0
