@@ -47,6 +47,10 @@ class Administration:
         self._ask("PUT", f"users/{quote(gateway)}", {"password_hash": hash_of(password, secrets.token_bytes(4)),
                                                      "hashing_algorithm": HASHING, "tags": ""})
 
+    def knows(self, gateway: str) -> bool:
+        """Whether a gateway's user is there."""
+        return self._ask("GET", f"users/{quote(gateway)}", may_lack=True) is not None
+
     def put_rights(self, area: str, gateway: str) -> None:
         """Lets a gateway read its own queue, and publish under its own name in its area; nothing else."""
         queue = f"^{re.escape(broker.gateway_queue(gateway))}$"
