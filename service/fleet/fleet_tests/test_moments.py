@@ -220,6 +220,20 @@ def test_what_fails_again_is_said_once(house: House, monkeypatch: pytest.MonkeyP
     assert len([it for it in caplog.records if "full" in it.getMessage()]) == 1
 
 
+def test_a_gateways_file_that_its_disk_damages(house: House, monkeypatch: pytest.MonkeyPatch, caplog: pytest.LogCaptureFixture) -> None:
+    """While it works: its log says what to do about it, as where it can't begin."""
+    ending, fault = Ending(), sqlite3.DatabaseError("database disk image is malformed")
+    fault.sqlite_errorname = "SQLITE_CORRUPT_INDEX"
+    house.agent.config = Config(broker=Broker(port=1))
+
+    def damaged(_now: float) -> int:
+        ending.set()
+        raise fault
+    monkeypatch.setattr(house.agent, "number", damaged)
+    house.agent.run(ending)
+    assert [it.getMessage() for it in caplog.records if "malformed" in it.getMessage() and "take it away" in it.getMessage()]
+
+
 @pytest.mark.parametrize("part", ["intake", "sessions", "downlinks", "gateway"])
 def test_what_fails_anew_is_said_anew(fleet: Fleet, tmp_path: Path, monkeypatch: pytest.MonkeyPatch, caplog: pytest.LogCaptureFixture,
                                       part: str) -> None:

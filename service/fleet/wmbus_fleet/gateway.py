@@ -212,7 +212,7 @@ class Agent:
                 with broker.connected(self.config.broker) as connection:
                     self._serve(connection, ending)
             except (*broker.FAULTS, ProgramFailed, Trouble, sqlite3.Error) as fault:
-                told = f"{self.told.name}: {type(fault).__name__}: {fault}"
+                told = f"{self.told.name}: {type(fault).__name__}: {told_of(fault)}"
                 if told != self.trouble:
                     log.error("%s", told)
                 self.trouble = told
@@ -222,9 +222,9 @@ class Agent:
                     self.number(time.time())
                     unnumbered = ""
                 except (ProgramFailed, Trouble, OSError, sqlite3.Error) as fault:
-                    if str(fault) != unnumbered:
-                        log.error("%s: %s", self.told.name, fault)
-                    unnumbered = str(fault)
+                    if told_of(fault) != unnumbered:
+                        log.error("%s: %s", self.told.name, told_of(fault))
+                    unnumbered = told_of(fault)
                 ending.wait(LOOK)
 
     def _serve(self, connection: Any, ending: Ending) -> None:
@@ -297,7 +297,13 @@ def _opened(path: Path) -> sqlite3.Connection:
     try:
         return open_gateway(path, time.time())
     except sqlite3.Error as fault:
-        is_whole = not str(getattr(fault, "sqlite_errorname", "")).startswith(("SQLITE_CORRUPT", "SQLITE_NOTADB"))
-        raise Trouble(path, f"the gateway's database can't be opened: {fault}",
-                      "look at its disk, its owner and its rights" if is_whole
-                      else "take it away, and the receiver's lines in the spool with it") from None
+        raise Trouble(path, told_of(fault)) from None
+
+
+def told_of(fault: Exception) -> str:
+    """What is the matter; of the gateway's database also what to do."""
+    if not isinstance(fault, sqlite3.Error):
+        return str(fault)
+    is_damaged = str(getattr(fault, "sqlite_errorname", "")).startswith(("SQLITE_CORRUPT", "SQLITE_NOTADB"))
+    return f"the gateway's database: {fault}; " + ("take it away, and the receiver's lines in the spool with it" if is_damaged
+                                                   else "look at its disk, its owner and its rights")
