@@ -122,7 +122,7 @@ class Postgres(Server):
             conf.write(f"listen_addresses = '127.0.0.1'\nport = {self.port}\nunix_socket_directories = ''\nshared_buffers = 64MB\n")
 
     def _make_files(self) -> None:
-        """Makes its files. (Who may do all in it has programs started in its user's name, and so no other user of the machine gets in.)"""
+        """Makes its files. (Its superuser has programs started in its user's name, and so no other user of the machine gets in.)"""
         words = [str(POSTGRES / "initdb"), "-D", str(self.folder), "-A", "scram-sha-256", "-U", "postgres", "-E", "UTF8", "--locale=C", "-N"]
         with memory_files([self.password.encode()]) as opened:
             made = subprocess.run([*words, f"--pwfile={path_of(opened[0])}"], stdin=subprocess.DEVNULL, capture_output=True, text=True,
