@@ -445,7 +445,7 @@ def test_a_restore_that_is_cut_off(place: Place, monkeypatch: pytest.MonkeyPatch
 
     def pulled(*_: object) -> None:
         raise OSError("the plug was pulled")
-    monkeypatch.setattr(backup, "_put_in_place", pulled)
+    monkeypatch.setattr(backup, "put_in_place", pulled)
     place.fault("restore", str(copy))
     with sqlite3.connect(path) as database:
         assert database.execute("select value from setting where name = 'own'").fetchone() == ("later",)

@@ -36,7 +36,7 @@ def back_up(config: Config, target: Path) -> int:
             database.backup(copy)
             look_over(copy, config.database)
             copy.execute("pragma journal_mode = delete")
-        _put_in_place(beside, target)
+        put_in_place(beside, target)
     finally:
         # (where it failed: a part of a copy has keys, and takes room)
         beside.unlink(missing_ok=True)
@@ -53,7 +53,7 @@ def look_over(database: sqlite3.Connection, place: Path) -> None:
         raise Trouble(place, f"the database isn't whole: {said}", "take an earlier copy")
 
 
-def _put_in_place(made: Path, target: Path) -> None:
+def put_in_place(made: Path, target: Path) -> None:
     """Gives a file that stands on the disk its name."""
     for path, flags in ((made, os.O_RDWR), (target.parent, os.O_RDONLY)):
         opened = os.open(path, flags)
@@ -99,7 +99,7 @@ def _restore_over(config: Config, source: Path, beside: Path, margin: int) -> in
     _gather_commits(config.database)
     for name in ("wmbus.db-wal", "wmbus.db-shm"):
         (config.folder / name).unlink(missing_ok=True)
-    _put_in_place(beside, config.database)
+    put_in_place(beside, config.database)
     return count
 
 

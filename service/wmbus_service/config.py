@@ -183,21 +183,23 @@ def read_config(path: Path) -> Config:
     """The configuration of a file."""
     config = read_settings(path, Config, "docs/SERVICE.md")
     assert isinstance(config, Config)
-    for known in dataclasses.fields(Programs):
-        _look_at_program(path, known, getattr(config.programs, known.name))
+    look_at_programs(path, config.programs)
     if not config.spool_bytes:
         raise Trouble(path, "spool_bytes is 0, and no receiver would hear anything", "leave it out, or name more")
     return config
 
 
-def _look_at_program(path: Path, known: dataclasses.Field[str], command: str) -> None:
-    """A program's words that are none."""
-    try:
-        is_empty = not words_of(command)
-    except ValueError as fault:
-        raise Trouble(path, f"programs.{known.name} isn't a command: {fault}", "look at its quotes") from None
-    if is_empty and (command or known.default is dataclasses.MISSING):
-        raise Trouble(path, f"programs.{known.name} is empty", "leave it out: the program that is installed does its work then, or the service itself")
+def look_at_programs(path: Path, programs: Any) -> None:
+    """Programs whose words are none."""
+    for known in dataclasses.fields(programs):
+        command = getattr(programs, known.name)
+        try:
+            is_empty = not words_of(command)
+        except ValueError as fault:
+            raise Trouble(path, f"programs.{known.name} isn't a command: {fault}", "look at its quotes") from None
+        if is_empty and (command or known.default is dataclasses.MISSING):
+            raise Trouble(path, f"programs.{known.name} is empty",
+                          "leave it out: the program that is installed does its work then, or the service itself")
 
 
 def read_settings(path: Path, wanted: Any, document: str) -> object:

@@ -109,7 +109,7 @@ def read_roster(path: Path) -> str:
         store.look_at_rights(path, 0o600)
         return path.read_text(encoding="latin-1")
     except OSError as fault:
-        raise Trouble(path, f"the roster can't be read: {fault.strerror}", "name it in the configuration as `roster`") from None
+        raise Trouble(path, f"the roster can't be read: {fault.strerror}", "look at its name, and who may read it") from None
 
 
 def take_roster(config: Config, database: sqlite3.Connection, text: str, place: object, name: str = "") -> int:

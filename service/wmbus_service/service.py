@@ -33,8 +33,8 @@ ALIVE = 60.0
 LET_GO = 3600.0
 
 
-def lock(folder: Path) -> int:
-    """Keeps other services away from a folder, as long as this process lives."""
+def lock(folder: Path, kind: int = fcntl.LOCK_EX) -> int:
+    """Keeps other services away from a folder, as long as this process lives; shared, it keeps away those alone that don't share it."""
     try:
         opened = os.open(folder / "lock", os.O_RDWR | os.O_CREAT | os.O_CLOEXEC, 0o600)
     except OSError as fault:
@@ -42,7 +42,7 @@ def lock(folder: Path) -> int:
                       "have the file system writable, and look at the owner and the rights of the folder") from None
     for _ in range(LOCK_TRIES):
         try:
-            fcntl.flock(opened, fcntl.LOCK_EX | fcntl.LOCK_NB)
+            fcntl.flock(opened, kind | fcntl.LOCK_NB)
             return opened
         except BlockingIOError:
             # (`status` holds it for a moment, to see whether there is a service)

@@ -57,9 +57,9 @@ def processes(folder: Path) -> list[str]:
     for place in Path("/proc").glob("[0-9]*"):
         with suppress(OSError):
             words = (place / "cmdline").read_bytes().replace(b"\0", b" ").decode(errors="replace")
-            around = (place / "environ").read_bytes()
-            opened = [os.readlink(it) for it in (place / "fd").iterdir()]
-            if str(folder) in words or str(folder).encode() in around or any(it.startswith(str(folder)) for it in opened):
+            # (of a process that can't be dumped root alone sees more than its words)
+            if str(folder) in words or str(folder).encode() in (place / "environ").read_bytes() or any(
+                    os.readlink(it).startswith(str(folder)) for it in (place / "fd").iterdir()):
                 found.append(f"{place.name} {words}")
     return found
 

@@ -50,6 +50,9 @@ def one_line(name: str, epoch: int, number: int, until: int) -> Message:
     ([(5, 1, 0, "A x zz"), (5, 2, 0, "B 18446744073709551616 00")], 0, ""),
     # another's numbers: an epoch that is over, and a gap that it doesn't fill
     ([(5, 1, 0, LINE), (4, 8, 0, LINE)], 0, "sent 1 times a message of an epoch that is over"),
+    # its file was set back, as by a copy of its disk; what comes again for another reason is named by nobody
+    ([(5, 1, -450, LINE), (5, 2, -440, LINE), (5, 1, -30, LINE)], 0, "sent 1 times a message of later moments under a number that was taken"),
+    ([(5, 1, -40, LINE), (5, 2, -50, LINE), (5, 1, -40, LINE), (5, 2, -50, LINE)], 0, ""),
     ([(5, 1, 0, LINE), (5, 9, 0, LINE)], 0, "was asked for message 2 of epoch 5 and hasn't sent it"),
 ])
 def test_a_faulty_gateway_is_named(fleet: Fleet, said: list[tuple[int, int, int, str]], rubbish: int, words: str) -> None:

@@ -3,7 +3,12 @@ messages that no gateway of ours sends."""
 from __future__ import annotations
 
 import io
+import itertools
+import json
+import os
 import random
+import re
+import socket
 import sqlite3
 import subprocess
 import threading
@@ -14,32 +19,41 @@ from configparser import ConfigParser
 from contextlib import closing
 from dataclasses import replace
 from pathlib import Path
+from tempfile import TemporaryDirectory
+from types import SimpleNamespace
 from typing import Any
 
 import psycopg
 import pytest
+from psycopg.conninfo import conninfo_to_dict, make_conninfo
 from tests.kill import PYTHON
 from tests.meters import line_of, next_telegrams, roster_of, some_meters
-from tests.processes import started, until
+from tests.processes import run, started, until
 from tests.stand_in import stand_in
-from wmbus_fleet import backup, broker, commandline, commands, demo, downlinks, gateway, gateways, intake, metrics, sessions, store
+from wmbus_fleet import (
+    backup, broker, commandline, commands, demo, downlinks, gateway, gateways, intake, lifeline, metrics, own_servers, sessions, store,
+)
 from wmbus_fleet.administration import Administration
 from wmbus_fleet.arrived import arrived
-from wmbus_fleet.config import Broker, Config, Gateway, Keep, Metrics, Ticks
+from wmbus_fleet.config import Broker, Config, Gateway, Keep, Metrics, Ticks, read_config
+from wmbus_fleet.demo import Demo
 from wmbus_fleet.gateway import Agent, arm, open_gateway
 from wmbus_fleet.intake import Consuming, Intake
-from wmbus_fleet.messages import Down, Message, down_body, frames_in, lines_body, read_lines
+from wmbus_fleet.messages import LAST, Again, Down, Message, down_body, frames_in, lines_body, read_lines
 from wmbus_fleet.retention import let_go
 from wmbus_fleet.status import figures, in_words
+from wmbus_fleet.view.app import create_app
 from wmbus_service import store as service_store
 from wmbus_service.config import Config as ServiceConfig
 from wmbus_service.config import Receiver
 from wmbus_service.ending import Ending
+from wmbus_service.service import lock
 from wmbus_service.spool import LONGEST
 from wmbus_service.steps import ProgramFailed
 from wmbus_service.store import prepare_folder
 from wmbus_service.trouble import Trouble
 
+from .servers import Both
 from .test_parts import DAY, NOW, Fleet, House, fleet, house
 
 __all__ = ["fleet", "house"]
@@ -146,6 +160,34 @@ def test_nothing_is_searched_in_a_gateways_messages(house: House) -> None:
     assert steps < 20
 
 
+def test_an_epoch_without_numbers(house: House) -> None:
+    """Nothing is numbered until the broker has all of its messages; then another one begins."""
+    house.database.execute("update numbering set last = ?", (LAST,))
+    house.database.execute("update message set acknowledged = 0 where number = 3")
+    house.hear(["A 9 00"])
+    assert house.agent.number(NOW + 40) == 0 and house.agent.numbering() == (int(NOW), LAST)
+    house.database.execute("update message set acknowledged = 1")
+    assert house.agent.number(NOW + 40) == 1 and house.agent.numbering() == (int(NOW) + 40, 1)
+    assert house.messages() == {1: (b"A 9 00\n", False)}
+
+
+def test_an_epoch_that_begins_with_many_messages(house: House) -> None:
+    """As behind a fleet's copy that is older than a week, of which a gateway may have more than its machine has memory."""
+    rows = [(number, 100_000 * b"0", NOW, NOW) for number in range(5, 205)]
+    house.database.executemany("insert into message (number, lines, until, made) values (?, ?, ?, ?)", rows)
+    house.database.execute("delete from message where number < 3")
+    house.database.execute("update numbering set last = 204")
+    del rows
+    tracemalloc.start()
+    house.agent.send_again(Again("gw1", int(NOW), 2), NOW + 30)
+    (_, most) = tracemalloc.get_traced_memory()
+    tracemalloc.stop()
+    assert most < 1_000_000
+    assert house.agent.numbering() == (int(NOW) + 30, 201)
+    assert [(number, len(lines), is_done) for number, (lines, is_done) in house.messages().items()][:3] == [
+        (1, 7, False), (2, 100_000, False), (3, 100_000, False)]
+
+
 def test_a_full_disk_has_a_downlink_go_out_once(house: House) -> None:
     """What can't be committed is tried again and again, and the radio doesn't send with it."""
     draw = random.Random(1)
@@ -176,6 +218,20 @@ def test_what_fails_again_is_said_once(house: House, monkeypatch: pytest.MonkeyP
     house.agent.run(ending)
     stopping.join()
     assert len([it for it in caplog.records if "full" in it.getMessage()]) == 1
+
+
+def test_a_gateways_file_that_its_disk_damages(house: House, monkeypatch: pytest.MonkeyPatch, caplog: pytest.LogCaptureFixture) -> None:
+    """While it works: its log says what to do about it, as where it can't begin."""
+    ending, fault = Ending(), sqlite3.DatabaseError("database disk image is malformed")
+    fault.sqlite_errorname = "SQLITE_CORRUPT_INDEX"
+    house.agent.config = Config(broker=Broker(port=1))
+
+    def damaged(_now: float) -> int:
+        ending.set()
+        raise fault
+    monkeypatch.setattr(house.agent, "number", damaged)
+    house.agent.run(ending)
+    assert [it.getMessage() for it in caplog.records if "malformed" in it.getMessage() and "take it away" in it.getMessage()]
 
 
 @pytest.mark.parametrize("part", ["intake", "sessions", "downlinks", "gateway"])
@@ -228,6 +284,25 @@ def test_what_is_too_large_costs_no_memory() -> None:
     (_, most) = tracemalloc.get_traced_memory()
     tracemalloc.stop()
     assert most < len(body)
+
+
+def test_a_batch_of_many_areas(fleet: Fleet, monkeypatch: pytest.MonkeyPatch) -> None:
+    """Of each area the broker gives as many messages as an intake has in hand; no batch has more than that, since the program takes 131,072
+    lines at most (docs/FORMATS.md, "Exit statuses")."""
+    monkeypatch.setattr("wmbus_fleet.intake.PREFETCH", 3)
+    areas = [fleet.area, f"{fleet.area}2"]
+    commands.add_area(fleet.config, fleet.database, areas[1])
+    with broker.connected(fleet.config.broker) as connection:
+        consuming, channel = Consuming(Intake(fleet.config, fleet.database, "test"), connection, areas), broker.opened(connection)
+        for area in areas:
+            for number in (1, 2, 3):
+                broker.publish(channel, broker.EXCHANGE, broker.up_key(area, "gw"), lines_body(5, number, 9, b""))
+
+        def are_given() -> bool:
+            connection.process_data_events(0.05)
+            return len(consuming.held) == 6
+        until(are_given)
+        assert [consuming.turn(), consuming.turn()] == [3, 3]
 
 
 def test_a_number_that_no_message_has(fleet: Fleet) -> None:
@@ -295,13 +370,19 @@ def test_a_copy_of_the_release_before(fleet: Fleet, restored: Config, tmp_path: 
         assert {block.split(" ")[6] for (block,) in database.execute("select block from meter")} == {"50"}
 
 
+def stand_ins(folder: Path, **programs: str) -> str:
+    """Programs of PostgreSQL's that do something else; the path that finds them first."""
+    for name, does in programs.items():
+        (folder / name).write_text(f"#!/bin/sh\n{does}\n")
+        (folder / name).chmod(0o700)
+    return f"{folder}:/usr/bin:/bin"
+
+
 def test_no_password_is_an_argument(tmp_path: Path, monkeypatch: pytest.MonkeyPatch) -> None:
     """Every user of the machine sees a program's words."""
     seen = tmp_path / "seen"
-    for name in ("pg_dump", "pg_restore"):
-        (tmp_path / name).write_text(f'#!/bin/sh\necho "$@" >>{seen}\necho "$PGPASSWORD" >>{tmp_path}/password\necho "{backup.INBOX}"\n')
-        (tmp_path / name).chmod(0o700)
-    monkeypatch.setenv("PATH", f"{tmp_path}:/usr/bin:/bin")
+    does = f'echo "$@" >>{seen}\necho "$PGPASSWORD" >>{tmp_path}/password\necho "{backup.INBOX}"'
+    monkeypatch.setenv("PATH", stand_ins(tmp_path, pg_dump=does, pg_restore=does))
     backup.back_up(Config(database="host=db dbname=wmbus user=wmbus password='very secret'"), tmp_path / "copy")
     assert "secret" not in seen.read_text() and "dbname=wmbus" in seen.read_text()
     assert set((tmp_path / "password").read_text().splitlines()) == {"very secret"}
@@ -312,13 +393,41 @@ def test_a_copy_that_could_never_be_put_back(tmp_path: Path, monkeypatch: pytest
     """As of a database without a fleet's tables, by a slip of the pen in the configuration, or of one into which a copy is just put: that is
     said when it is made, and not when it is wanted."""
     (tmp_path / "listed").write_text(listed)
-    for name, does in (("pg_dump", ""), ("pg_restore", f"cat {tmp_path}/listed")):
-        (tmp_path / name).write_text(f"#!/bin/sh\n{does}\n")
-        (tmp_path / name).chmod(0o700)
-    monkeypatch.setenv("PATH", f"{tmp_path}:/usr/bin:/bin")
+    monkeypatch.setenv("PATH", stand_ins(tmp_path, pg_dump="", pg_restore=f"cat {tmp_path}/listed"))
     with pytest.raises(Trouble, match="couldn't be put back"):
         backup.back_up(Config(), tmp_path / "copy")
     assert not list(tmp_path.glob("copy*"))
+
+
+def test_a_copy_stands_on_the_disk(tmp_path: Path, monkeypatch: pytest.MonkeyPatch) -> None:
+    """Where the machine's power goes behind it, it is there, under its name."""
+    synced: list[str] = []
+    monkeypatch.setattr("wmbus_service.backup.sync", lambda opened: synced.append(os.readlink(f"/proc/self/fd/{opened}")))
+    monkeypatch.setenv("PATH", stand_ins(tmp_path, pg_dump="", pg_restore=f"echo '{backup.INBOX}'"))
+    backup.back_up(Config(), tmp_path / "copy")
+    assert synced == [f"{tmp_path}/copy.making", str(tmp_path)]
+
+
+def test_a_copy_that_is_ended(tmp_path: Path) -> None:
+    """As by a timer whose time is over: no part of it is left, which has keys."""
+    path = stand_ins(tmp_path, pg_dump=f"touch {tmp_path}/begun; exec sleep 600")
+    (tmp_path / "fleet.toml").touch()
+    command = [PYTHON, str(Path(__file__).parents[1] / "wmbus-fleet"), "--config", str(tmp_path / "fleet.toml"), "backup", f"{tmp_path}/copy"]
+    with started(command, env=os.environ | {"PATH": path}, stderr=subprocess.PIPE, text=True) as process:
+        until((tmp_path / "begun").exists)
+        process.terminate()
+        assert process.wait(LIMIT) == 1 and process.stderr and "interrupted" in process.stderr.read()
+    assert not list(tmp_path.glob("copy*"))
+
+
+def test_a_command_that_is_interrupted(tmp_path: Path, monkeypatch: pytest.MonkeyPatch, capsys: pytest.CaptureFixture[str]) -> None:
+    """By Ctrl-C: its status doesn't say that all is done."""
+    def interrupted(*_: Any) -> int:
+        raise KeyboardInterrupt
+    monkeypatch.setattr(backup, "restore", interrupted)
+    (tmp_path / "fleet.toml").touch()
+    assert commandline.main(["--config", str(tmp_path / "fleet.toml"), "restore", "copy"]) == 1
+    assert "interrupted" in capsys.readouterr().err
 
 
 def test_an_area_that_is_made_while_an_intake_works(fleet: Fleet, tmp_path: Path) -> None:
@@ -386,6 +495,20 @@ def test_late_ticks_of_the_metrics(fleet: Fleet) -> None:
         assert metrics.take(fleet.config).gauges["ticks_late"] == count == figures(fleet.database)["ticks_late"]
 
 
+def test_no_code_of_a_meter_can_be_read(fleet: Fleet) -> None:
+    """Access codes, passwords and keys are among the unknown quantities: what was sent of these stands in no view of the page's, nor in those
+    of a release that showed it."""
+    now = store.one(fleet.database, "select pg_get_viewdef('page.record'::regclass)")
+    before = re.sub("CASE .* END AS raw", "(e.it ->> 'raw'::text) AS raw", now, flags=re.DOTALL)
+    fleet.database.execute(f"create or replace view page.record as {before}")
+    store.init(fleet.config.database)
+    told = {"unit": "-", "exponent": 0, "function": "instantaneous", "storage": 0, "tariff": 0, "subunit": 0, "modifiers": "", "raw": "00ff"}
+    records = [{"quantity": "unknown", "value": "raw"} | told, {"quantity": "volume", "value": "65280"} | told]
+    store.copy_rows(fleet.database, "reading (line, address, counter, moment, payload, more, records, made)",
+                    [(1, fleet.meters[0].name, 1, 1, "", False, json.dumps(records), NOW)])
+    assert store.pairs(fleet.database, "select quantity, raw from page.record") == {"unknown": "", "volume": "00ff"}
+
+
 def test_which_queue_went(fleet: Fleet) -> None:
     """Of several that a process listens to the one is named."""
     with broker.connected(fleet.config.broker) as connection:
@@ -444,6 +567,52 @@ def test_a_line_that_is_far_too_long() -> None:
     assert frames_in(["A 1 00", "A 1 " + 200_000 * "0"]) == [(1, "A 1 00"), (2, ("A 1 " + 200_000 * "0")[:LONGEST])]
 
 
+def test_a_stranger_that_was_commissioned(fleet: Fleet) -> None:
+    """It is known, however often it was heard before."""
+    rows = [(fleet.meters[0].name, 30, "gw", NOW), (16 * "0", 2, "gw", NOW)]
+    store.copy_rows(fleet.database, "stranger (address, times, gateway, last_made)", rows)
+    told = [line for line in in_words(figures(fleet.database)) if "not known" in line]
+    assert told == [f"heard 2 times, and not known: {16 * '0'}"]
+
+
+@pytest.mark.parametrize("asked", ["überlingen", "Überlingen", "ÜBERL"])
+def test_a_search_for_other_letters(fleet: Fleet, asked: str) -> None:
+    """Large or small, whatever the locale of the database; this one has that of C, which knows the letters of ASCII alone."""
+    fleet.database.execute("update meter set name = 'Überlingen, Haus 5' where address = %s", (fleet.meters[1].name,))
+    found: Any = create_app(fleet.config).test_client().get("/api/meters", query_string={"q": asked}).get_json()
+    assert [it["address"] for it in found["meters"]] == [fleet.meters[1].name]
+
+
+def test_who_gets_into_a_postgresql_of_ones_own(both: Both) -> None:
+    """No other user of the machine: its superuser has programs started in the name of who started it."""
+    told = {name: value for name, value in conninfo_to_dict(both.postgres.words("postgres")).items() if name != "password"}
+    with pytest.raises(psycopg.OperationalError, match="password"):
+        psycopg.connect(make_conninfo(**told)).close()
+
+
+def test_a_postgresql_that_cant_be_made(monkeypatch: pytest.MonkeyPatch) -> None:
+    """As where the disk is full: it is said in words, without a trace."""
+    with TemporaryDirectory() as place:
+        folder = Path(place)
+        folder.chmod(0o711)
+        stand_ins(folder, initdb="echo 'initdb: error: No space left on device' >&2; exit 1")
+        (folder / "initdb").chmod(0o755)
+        monkeypatch.setattr(own_servers, "POSTGRES", folder)
+        with pytest.raises(Trouble, match="No space left"):
+            own_servers.Postgres(folder)
+
+
+def test_a_gateway_without_a_radio_that_sends(house: House, caplog: pytest.LogCaptureFixture) -> None:
+    """Its log says why a downlink doesn't go out."""
+    draw = random.Random(1)
+    meter = some_meters(draw, 1)[0]
+    house.agent.radio = ""
+    arm(house.database, Down(meter.name, 5, "05", 100), NOW + 30)
+    house.hear([line_of(next_telegrams(draw, meter)[0], 1).strip()])
+    assert house.agent.number(NOW + 40) == 1
+    assert [it.getMessage() for it in caplog.records if "names no `downlinks`" in it.getMessage()]
+
+
 @pytest.mark.parametrize("said, lacking", [((1, 3, 4), 2), ((2, 3), 1)])
 def test_a_gap_behind_which_a_gateway_goes_on(fleet: Fleet, said: tuple[int, ...], lacking: int) -> None:
     """It is asked again with each message that it sends, and named all the same."""
@@ -482,6 +651,21 @@ def test_a_copy_of_something_else(fleet: Fleet, restored: Config, tmp_path: Path
     backup._done(["pg_dump", "--format=custom", f"--file={tmp_path / 'copy'}"], other)
     with pytest.raises(Trouble, match="no copy of a fleet"):
         backup.restore(restored, tmp_path / "copy", 50)
+
+
+def test_a_database_of_another_encoding(fleet: Fleet, restored: Config, tmp_path: Path) -> None:
+    """As `createdb` alone makes it on a machine without a locale: that is said before anything is put into it, which nobody could work over."""
+    name = f"{fleet.area.split('-')[0]}d"
+    with psycopg.connect(fleet.config.database, autocommit=True) as database:
+        database.execute(f"create database {name} encoding 'SQL_ASCII' template template0")
+    told = replace(restored, database=fleet.both.postgres.words(name))
+    backup.back_up(fleet.config, tmp_path / "copy")
+    with pytest.raises(Trouble, match="SQL_ASCII.*UTF8"):
+        store.init(told.database)
+    with pytest.raises(Trouble, match="SQL_ASCII.*UTF8"):
+        backup.restore(told, tmp_path / "copy", 50)
+    with psycopg.connect(told.database) as database:
+        assert database.execute("select count(*) from pg_tables where schemaname = 'public'").fetchone() == (0,)
 
 
 def test_a_margin_that_cant_be(fleet: Fleet, restored: Config, tmp_path: Path) -> None:
@@ -553,13 +737,19 @@ def test_a_password_that_is_no_text(tmp_path: Path) -> None:
         broker.password_of(Broker(password_file=str(tmp_path / "password")))
 
 
-def test_a_gateways_file_that_isnt_whole(tmp_path: Path) -> None:
-    """It is named, with what to do."""
+@pytest.mark.parametrize("is_whole", [False, True])
+def test_a_gateways_file_that_cant_be_opened(tmp_path: Path, is_whole: bool) -> None:
+    """It is named, with what to do; it is taken away, and what wasn't sent with it, where it isn't whole alone."""
     service = ServiceConfig(tmp_path / "service", receivers={"radio": Receiver()})
     prepare_folder(service.folder)
-    (service.folder / "gateway.gw1.db").write_bytes(1000 * b"no database")
-    with pytest.raises(Trouble, match="gateway.gw1.db"):
+    path = service.folder / "gateway.gw1.db"
+    if is_whole:
+        path.mkdir()
+    else:
+        path.write_bytes(1000 * b"no database")
+    with pytest.raises(Trouble, match="gateway.gw1.db.*" + ("owner" if is_whole else "take it away")) as told:
         gateway.run(Config(), Gateway("gw1", "north", "radio"), service, Ending())
+    assert ("take it away" in str(told.value)) is not is_whole
 
 
 def test_a_servers_clock_that_is_set_back(fleet: Fleet) -> None:
@@ -667,6 +857,32 @@ def test_words_that_are_no_text(fleet: Fleet, tmp_path: Path, monkeypatch: pytes
     assert "UTF-8" in capsys.readouterr().err
 
 
+def test_no_proxy_has_the_administrators_password(monkeypatch: pytest.MonkeyPatch) -> None:
+    """Whatever the environment names for the way to others."""
+    monkeypatch.setattr("wmbus_fleet.administration.PATIENCE", 2.0)
+    for name in ("no_proxy", "NO_PROXY"):
+        monkeypatch.delenv(name, raising=False)
+    with socket.create_server(("127.0.0.1", 0)) as proxy:
+        monkeypatch.setenv("http_proxy", f"http://127.0.0.1:{proxy.getsockname()[1]}")
+        with pytest.raises(Trouble, match="management"):
+            Administration(Broker(management="http://127.0.0.1:1")).depths()
+        proxy.setblocking(False)
+        with pytest.raises(BlockingIOError):
+            proxy.accept()
+
+
+def test_something_else_at_the_address_of_the_management() -> None:
+    """It is named, without a trace."""
+    with socket.create_server(("127.0.0.1", 0)) as server:
+        def answer() -> None:
+            with server.accept()[0] as asked:
+                asked.recv(1 << 16)
+                asked.sendall(b"HTTP/1.0 200 OK\r\n\r\n<html>")
+        threading.Thread(target=answer, daemon=True).start()
+        with pytest.raises(Trouble, match="management"):
+            Administration(Broker(management=f"http://127.0.0.1:{server.getsockname()[1]}")).depths()
+
+
 @pytest.mark.parametrize("address", ["http://127.0.0.1:port", "http://a b:15672", "http://[::1", "http://house..net:15672"])
 def test_an_address_of_the_management_that_cant_be(address: str) -> None:
     """It is named, without a trace."""
@@ -691,6 +907,50 @@ def test_who_reads_the_configuration(tmp_path: Path) -> None:
     assert (tmp_path / "etc/wmbus/fleet.toml").stat().st_mode & 0o777 == 0o644
 
 
+def test_an_installation_under_a_strict_umask(tmp_path: Path) -> None:
+    """Whatever the umask of who installs is, as 077 of root's on many machines, the user of the parts can read all and start the programs."""
+    for folder in ("usr/lib/wmbus/wmbus_service", "usr/bin", "lib/systemd/system", "etc/wmbus"):
+        (tmp_path / folder).mkdir(parents=True)
+    run(["sh", "-c", f"umask 077; exec sh {Path(__file__).parents[1]}/install {tmp_path}"])
+    package = tmp_path / "usr/lib/wmbus/wmbus_fleet"
+    found = [package, *package.rglob("*"), *(it for it in tmp_path.rglob("*") if it.is_file())]
+    assert len(found) > 40
+    for path in found:
+        wanted = 0o755 if path.is_dir() or os.access(path, os.X_OK) else 0o644
+        assert path.stat().st_mode & 0o777 == wanted, path
+
+
+def of_the_package(folder: Path, name: str) -> Path:
+    """What Debian's package manager starts for a package, over a folder of the test's own in the place of the system's."""
+    text = (Path(__file__).parents[1] / "debian" / name).read_text(encoding="utf-8")
+    for place in ("/etc/systemd/system", "/usr/lib/wmbus", "/run/systemd/system"):
+        text = text.replace(place, f"{folder}{place}")
+    (folder / "script").write_text(text)
+    return folder / "script"
+
+
+@pytest.mark.parametrize("package, gone", [
+    ("gateway", ["wmbus-gateway"]),
+    ("server", ["wmbus-intake@0", "wmbus-intake@1", "wmbus-sessions@0", "wmbus-downlinks", "wmbus-fleet-page", "wmbus-fleet-metrics"])])
+def test_a_purge_and_units(tmp_path: Path, package: str, gone: list[str]) -> None:
+    """What `systemctl enable` made goes too, so that what is installed anew starts nothing; other packages' units stay."""
+    wants = tmp_path / "etc/systemd/system/multi-user.target.wants"
+    wants.mkdir(parents=True)
+    for name in ("wmbus", "ssh", *gone):
+        (wants / f"{name}.service").symlink_to(f"/lib/systemd/system/{name}.service")
+    run(["sh", of_the_package(tmp_path, f"{package}/postrm"), "purge"])
+    assert {path.stem for path in wants.iterdir()} == {"wmbus", "ssh"}
+
+
+@pytest.mark.parametrize("is_there", [True, False])
+def test_a_removal(tmp_path: Path, is_there: bool) -> None:
+    """The package can be removed also where somebody took its folder away before; what Python made of its files goes."""
+    if is_there:
+        (tmp_path / "usr/lib/wmbus/wmbus_fleet/view/__pycache__").mkdir(parents=True)
+    run(["sh", of_the_package(tmp_path, "fleet/prerm"), "remove"])
+    assert not list(tmp_path.rglob("__pycache__"))
+
+
 def test_a_queue_that_is_gone(fleet: Fleet) -> None:
     """The metrics have those of the other areas, and don't say that the broker is down."""
     taken, areas = metrics.Taken(), ["an-area-without", fleet.area]
@@ -704,6 +964,44 @@ def test_metrics_without_the_brokers_password(fleet: Fleet) -> None:
     assert taken.gauges["meters"] == 3.0 and taken.gauges["broker_up"] == 0.0
 
 
+def test_a_demo_on_a_slow_machine(monkeypatch: pytest.MonkeyPatch) -> None:
+    """It is waited as long as telegrams are heard, however long all of them take."""
+    heard, clock = itertools.count(), itertools.count(0, 50)
+    monkeypatch.setattr(Demo, "heard", lambda _self: next(heard))
+    monkeypatch.setattr(Demo, "look_at_parts", lambda _self: None)
+    monkeypatch.setattr(demo, "time", SimpleNamespace(monotonic=lambda: next(clock)))
+    monkeypatch.setattr(Ending, "wait", lambda *_: False)
+    object.__new__(Demo).wait(9, Ending(), lambda _words: None)
+
+
+def test_a_demo_in_a_folder_with_modules(tmp_path: Path, monkeypatch: pytest.MonkeyPatch) -> None:
+    """What lies where it is started, under the name of a module of Python's, is none of its parts'."""
+    started_with: list[Any] = []
+    monkeypatch.setattr(lifeline, "started", lambda *words: started_with.extend(words))
+    (tmp_path / "random.py").write_text("raise SystemExit(7)")
+    made = object.__new__(Demo)
+    vars(made).update(folder=tmp_path, parts=[])
+    made._start(tmp_path / "fleet.toml", "intake")
+    words, _, environment = started_with
+    assert run([*words, "--help"], cwd=tmp_path, env=environment, check=False).returncode == 0
+
+
+def test_a_demo_that_lags(monkeypatch: pytest.MonkeyPatch) -> None:
+    """What has long been due is sent no further once it is told to end."""
+    made, ending, sent = object.__new__(Demo), Ending(), []
+
+    def spool(_self: Demo, lines: Any) -> None:
+        sent.append(lines)
+        assert len(sent) < 9
+        ending.set()
+    monkeypatch.setattr(Demo, "_spool", spool)
+    monkeypatch.setattr(Demo, "answer", lambda _self: True)
+    monkeypatch.setattr(Demo, "look_at_parts", lambda _self: None)
+    vars(made).update(seconds=1e-9, town=SimpleNamespace(meters=[0], sent=lambda *_: ()))
+    made.go_on(ending)
+    assert len(sent) == 1
+
+
 @pytest.mark.parametrize("seconds, port", [(float("nan"), 9103), (30.0, 70_000), (30.0, -1)])
 def test_words_of_a_demo_that_cant_be(monkeypatch: pytest.MonkeyPatch, seconds: float, port: int) -> None:
     """They are named before servers start."""
@@ -712,6 +1010,16 @@ def test_words_of_a_demo_that_cant_be(monkeypatch: pytest.MonkeyPatch, seconds: 
     monkeypatch.setattr(demo, "own_folder", starts)
     with pytest.raises(Trouble):
         demo.run(10, seconds, port, Ending(), print)
+
+
+def test_a_large_roster_with_a_fault(fleet: Fleet, monkeypatch: pytest.MonkeyPatch) -> None:
+    """None of its meters is added, as of a short one, and it is said where the fault is."""
+    for module in ("wmbus_service.meters", "wmbus_fleet.commands"):
+        monkeypatch.setattr(f"{module}.PIECE", 2)
+    *lines, last = roster_of(some_meters(random.Random(4), 5)).splitlines()
+    with pytest.raises(Trouble, match="the roster, behind its first 4 meters: .*line 3"):
+        commands.take_roster(fleet.config, fleet.database, "\n".join([*lines, f"{last}x"]), "the roster")
+    assert store.one(fleet.database, "select count(*) from meter") == 3
 
 
 def test_a_roster_from_the_standard_input(fleet: Fleet, tmp_path: Path, monkeypatch: pytest.MonkeyPatch) -> None:
@@ -745,10 +1053,75 @@ def test_how_a_new_key_is_given(fleet: Fleet, tmp_path: Path, monkeypatch: pytes
         {} if status else {"rekey": "00112233445566778899aabbccddeeff"})
 
 
-def test_a_port_that_no_metrics_have() -> None:
+@pytest.mark.parametrize("told", [Metrics(port=70_000), Metrics(host="house..net")])
+def test_where_no_metrics_can_be(told: Metrics) -> None:
     """It is named, without a trace."""
     with pytest.raises(Trouble, match="metrics"):
-        metrics.run(Config(metrics=Metrics(port=70_000)), Ending())
+        metrics.run(Config(metrics=told), Ending())
+
+
+def test_what_metrics_lack_is_said_once(fleet: Fleet, monkeypatch: pytest.MonkeyPatch, caplog: pytest.LogCaptureFixture) -> None:
+    """And anew once it was there meanwhile: they are taken four times a minute, over a weekend without a database too."""
+    ending, turns, nowhere = Ending(), 0, Broker(port=1)
+    take = metrics.take
+
+    def taken(_config: Config) -> metrics.Taken:
+        nonlocal turns
+        turns += 1
+        if turns == 8:
+            ending.set()
+        if turns in (1, 2):
+            raise psycopg.OperationalError("no database")
+        return take(fleet.config if turns in (5, 6) else replace(fleet.config, broker=nowhere))
+    monkeypatch.setattr(metrics, "take", taken)
+    monkeypatch.setattr(metrics, "INTERVAL", 0.01)
+    monkeypatch.setattr(metrics, "start_http_server", lambda *_, **__: None)
+    metrics.run(fleet.config, ending)
+    said = [it.getMessage() for it in caplog.records if it.getMessage().startswith("the metrics: ")]
+    assert ["no database" in it for it in said] == [True, False, False] and all("port 1" in it for it in said[1:])
+
+
+def test_metrics_before_any_were_taken() -> None:
+    """No counter is 0 for a moment, as behind a start of the process: what comes next would be taken for a rise of all that ever was."""
+    (told,) = [it for it in metrics.Figures().collect() if it.samples]
+    assert told.name == "wmbus_fleet_figures_age_seconds" and told.samples[0].value < LIMIT
+
+
+@pytest.mark.parametrize("text, words", [
+    ('[programs]\nsteps = "/opt/tim\'s/wmbus steps"', "programs.steps isn't a command"),
+    ('[programs]\naddress_list = ""', "programs.address_list is empty"),
+    ('database = "host=db password=very secret"', "database isn't in libpq's words"),
+    ('database = "postgresql://wmbus:se%cret@db/wmbus"', "database isn't in libpq's words")])
+def test_a_setting_that_cant_be(tmp_path: Path, text: str, words: str) -> None:
+    """It is named, without what may be a part of a password."""
+    (tmp_path / "fleet.toml").write_text(text)
+    with pytest.raises(Trouble, match=words) as told:
+        read_config(tmp_path / "fleet.toml")
+    assert "cret" not in str(told.value)
+
+
+@pytest.mark.parametrize("host", ["node1 node2:5672x", "node1:", "::1"])
+def test_a_port_of_a_node_that_cant_be(host: str) -> None:
+    """It is named, and no other port is taken in its place."""
+    with pytest.raises(Trouble, match="no port"), broker.connected(Broker(host)):
+        pass
+
+
+@pytest.mark.parametrize("content", ["a secret", "a secret\n", "a secret\r\n"])
+def test_the_brokers_password(tmp_path: Path, content: str) -> None:
+    """It is what stands in its file, however an editor ends a line."""
+    (tmp_path / "broker.password").write_text(content, newline="")
+    assert broker.password_of(Broker(password_file=str(tmp_path / "broker.password"))) == "a secret"
+
+
+def test_no_core_file(tmp_path: Path) -> None:
+    """Where a part dies of a fault none is left, in which keys would stand: neither as a file, of which the limit is 0, nor by what takes core
+    files through a pipe, which that doesn't hold (core(5)), and which gets none of a process that can't be dumped (prctl(2))."""
+    text = ("import ctypes, resource\nfrom wmbus_fleet.commandline import _ending\n_ending()\n"
+            "print(resource.getrlimit(resource.RLIMIT_CORE), ctypes.CDLL(None).prctl(3, 0, 0, 0, 0))")
+    folders = Path(__file__).parents[1:3]
+    ran = run([PYTHON, "-c", text], env=os.environ | {"PYTHONPATH": ":".join(map(str, folders))}, cwd=tmp_path)
+    assert ran.stdout == "(0, 0) 0\n"
 
 
 def test_names_of_a_file_of_another_system(fleet: Fleet, tmp_path: Path) -> None:
@@ -766,6 +1139,31 @@ def test_a_gateways_name_that_none_can_have(tmp_path: Path, name: str, area: str
     ending.set()
     with pytest.raises(Trouble, match=words):
         gateway.run(Config(), Gateway(name, area, "radio"), service, ending)
+
+
+def test_a_gateway_beside_the_service_of_one_machine(tmp_path: Path, monkeypatch: pytest.MonkeyPatch) -> None:
+    """Each would take lines from the other: whichever comes second says so. Gateways of several receivers are beside each other."""
+    service, ending, begun = ServiceConfig(tmp_path / "service", receivers={"radio": Receiver()}), Ending(), 0
+    ending.set()
+    prepare_folder(service.folder)
+
+    def begin(name: str) -> None:
+        gateway.run(Config(), Gateway(name, "north", "radio"), service, ending)
+    held = lock(service.folder)
+    with pytest.raises(Trouble, match="another service"):
+        begin("gw1")
+    os.close(held)
+
+    def run(_self: Agent, _ending: Ending) -> None:
+        nonlocal begun
+        begun += 1
+        with pytest.raises(Trouble, match="another service"):
+            lock(service.folder)
+        if begun == 1:
+            begin("gw2")
+    monkeypatch.setattr(Agent, "run", run)
+    begin("gw1")
+    assert begun == 2
 
 
 def test_an_intake_of_an_area_that_there_is_none_of(fleet: Fleet, caplog: pytest.LogCaptureFixture) -> None:

@@ -477,10 +477,12 @@ def test_restoring_needs_the_raising_program(fleet: Fleet) -> None:
 
 
 def test_another_version_is_refused(fleet: Fleet) -> None:
-    """Tables of a later release aren't touched."""
+    """Tables of a later release aren't touched, and nothing says that they were made this one's."""
     store.set_setting(fleet.database, "version", "99")
     with pytest.raises(Exception, match="version 99"):
         store.connect(fleet.config.database)
+    with pytest.raises(Exception, match="version 99"):
+        store.init(fleet.config.database)
 
 
 def test_the_gateways_file_is_its_owners(tmp_path: Path) -> None:

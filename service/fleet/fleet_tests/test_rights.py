@@ -130,6 +130,17 @@ def test_it_moves_and_goes(fleet: Fleet, tmp_path: Path) -> None:
         (7, 9, None, True)
 
 
+def test_a_gateway_whose_user_went(fleet: Fleet, tmp_path: Path) -> None:
+    """As where RabbitMQ was set up anew: who moves it is told that it gets a new password, and nothing is moved before."""
+    name = f"{fleet.area}-a"
+    administration.Administration(fleet.config.broker).remove(name)
+    with pytest.raises(Trouble, match="--files"):
+        gateways.add(fleet.config, fleet.database, f"{fleet.area}2", name, None)
+    assert store.one(fleet.database, "select area from gateway where name = %s", (name,)) == fleet.area
+    assert not gateways.add(fleet.config, fleet.database, f"{fleet.area}2", name, tmp_path / "files")
+    assert refused(as_gateway(fleet, tmp_path, name), lambda channel: broker.declare_gateway(channel, name)) is None
+
+
 def test_its_files_are_its_owners(fleet: Fleet, tmp_path: Path) -> None:
     """Others read no password, and RabbitMQ gets no more than its hash."""
     place = tmp_path / "files" / f"{fleet.area}-a"

@@ -5,7 +5,7 @@ import json
 import re
 import time
 from collections.abc import Iterator
-from dataclasses import dataclass
+from dataclasses import dataclass, replace
 from decimal import Decimal
 from pathlib import Path
 from typing import Any
@@ -166,7 +166,8 @@ def test_forms_need_the_token(shown: Shown) -> None:
     assert client.post(f"/meters/{meter}/commands", data={"forms": word, "payload": "01", "id": "p1"}).status_code == 303
     assert client.post(f"/meters/{meter}/commands/cancel", data={"forms": word, "id": "p1"}).status_code == 303
     other = shown.made.town.meters[2].address.hex()
-    assert client.post(f"/meters/{other}/commands/cancel", data={"forms": word, "id": "p1"}).status_code == 400
+    for address, ident in ((other, "p1"), (meter, "p1\0"), (f"{meter}%00", "p1")):
+        assert client.post(f"/meters/{address}/commands/cancel", data={"forms": word, "id": ident}).status_code == 400
     neighbour = made.town.neighbour
     asked = {"forms": word, "address": neighbour.address.hex(), "mode": "7", "key": neighbour.key.hex(), "name": "Next door"}
     assert client.post("/strangers/add", data=asked).status_code == 303
@@ -182,13 +183,13 @@ def test_forms_need_the_token(shown: Shown) -> None:
 def test_the_pages_role_reads_no_key(shown: Shown) -> None:
     """A role of the server's own for the page reads what the page shows, and neither keys nor frames, and changes nothing."""
     with psycopg.connect(shown.made.config.database, autocommit=True) as database:
-        database.execute("create role looker login")
+        database.execute(f"create role looker login password '{shown.both.postgres.password}'")
     words = shown.both.postgres.words("shown", "looker")
     app = create_app(type(shown.made.config)(database=words)).test_client()
     for path in ("/", "/meters", f"/meters/{shown.made.town.meters[0].address.hex()}", "/gateways", "/areas/shown-south", "/strangers"):
         assert app.get(path).status_code == 200, path
     told: Any = app.get("/api/overview").get_json()
-    assert told["workers"]["sessions"] == 2
+    assert told["workers"]["sessions"] == 2 == metrics.take(replace(shown.made.config, database=words)).labelled["workers"]["sessions"]
     with psycopg.connect(words, autocommit=True) as database:
         for query in ("select block from meter", "select frame from outbox", "select payload from command", "select text from line",
                       "delete from page.meter", "update page.gateway set area = 'x'"):

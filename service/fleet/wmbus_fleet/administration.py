@@ -38,12 +38,18 @@ class Administration:
         self.told, self.base = told, told.management.rstrip("/")
         login = f"{told.user}:{broker.password_of(told)}".encode()
         self.head = {"Authorization": "Basic " + base64.b64encode(login).decode(), "Content-Type": "application/json"}
-        self.context = broker.context_of(told) if address.scheme == "https" else None
+        context = broker.context_of(told) if address.scheme == "https" else None
+        # (through no proxy, whatever the environment names: it would read the administrator's password)
+        self.opener = urllib.request.build_opener(urllib.request.ProxyHandler({}), urllib.request.HTTPSHandler(context=context))
 
     def put_password(self, gateway: str, password: str) -> None:
         """Gives a gateway's user this password, of which RabbitMQ gets the hash; the user is made first where there is none."""
         self._ask("PUT", f"users/{quote(gateway)}", {"password_hash": hash_of(password, secrets.token_bytes(4)),
                                                      "hashing_algorithm": HASHING, "tags": ""})
+
+    def knows(self, gateway: str) -> bool:
+        """Whether a gateway's user is there."""
+        return self._ask("GET", f"users/{quote(gateway)}", may_lack=True) is not None
 
     def put_rights(self, area: str, gateway: str) -> None:
         """Lets a gateway read its own queue, and publish under its own name in its area; nothing else."""
@@ -68,17 +74,18 @@ class Administration:
         asked = urllib.request.Request(f"{self.base}/api/{path}", None if told is None else json.dumps(told).encode(), self.head,
                                        method=method)
         try:
-            with urllib.request.urlopen(asked, timeout=PATIENCE, context=self.context) as answer:
+            with self.opener.open(asked, timeout=PATIENCE) as answer:
                 text = answer.read()
+            return json.loads(text) if text else None
         except urllib.error.HTTPError as fault:
             if fault.code == 404 and may_lack:
                 return None
             remedy = f"has {self.told.user} the tag `administrator`?" if fault.code in (401, 403) else ""
             raise Trouble(self.base, f"RabbitMQ refuses {method} {path}: {fault.code} {fault.reason}", remedy) from None
-        except (OSError, HTTPException, UnicodeError) as fault:
+        except (OSError, HTTPException, ValueError) as fault:
+            # (of UTF-8 and of JSON, too, as where something else is at the address)
             raise Trouble(self.base, f"RabbitMQ's management plugin can't be asked: {fault}",
                           "`rabbitmq-plugins enable rabbitmq_management` has it work") from None
-        return json.loads(text) if text else None
 
 
 def hash_of(password: str, salt: bytes) -> str:

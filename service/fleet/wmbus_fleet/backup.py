@@ -9,7 +9,7 @@ from pathlib import Path
 
 import psycopg
 from psycopg.conninfo import conninfo_to_dict, make_conninfo
-from wmbus_service.backup import HIGHEST, raised_by_program
+from wmbus_service.backup import HIGHEST, put_in_place, raised_by_program
 from wmbus_service.commands import OPEN
 from wmbus_service.config import words_of
 from wmbus_service.trouble import Trouble
@@ -37,12 +37,7 @@ def back_up(config: Config, target: Path) -> None:
         if INBOX not in listed or " TABLE public restoring " in listed:
             raise Trouble("the database", "it isn't a fleet's, or `wmbus-fleet restore` hasn't ended: a copy of it couldn't be put back",
                           "look at `database` in the configuration")
-        opened = os.open(beside, os.O_RDWR)
-        try:
-            os.fsync(opened)
-        finally:
-            os.close(opened)
-        beside.rename(target)
+        put_in_place(beside, target)
     finally:
         # (where it failed: a part of a copy has keys, and takes room)
         beside.unlink(missing_ok=True)
@@ -60,6 +55,7 @@ def restore(config: Config, source: Path, margin: int) -> int:
     with psycopg.connect(config.database, autocommit=True) as database:
         if store.one(database, "select to_regclass('setting')") is not None:
             raise Trouble("the database", "it has tables already", "name a new, empty one in the configuration")
+        store.look_at_encoding(database)
         # (as long as this table is there no part works over the copy)
         database.execute("create table if not exists restoring ()")
     _done(["pg_restore", "--single-transaction", "--no-owner", "--exit-on-error", str(source)], config.database)

@@ -64,7 +64,8 @@ def password_of(told: Broker) -> str:
     if not told.password_file:
         return "guest"
     try:
-        return Path(told.password_file).read_text(encoding="utf-8").rstrip("\n")
+        # (an editor of another system ends a line otherwise)
+        return Path(told.password_file).read_text(encoding="utf-8").strip()
     except OSError as fault:
         raise Trouble(told.password_file, f"the broker's password can't be read: {fault.strerror}") from None
     except UnicodeDecodeError:

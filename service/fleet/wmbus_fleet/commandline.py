@@ -5,8 +5,8 @@ import argparse
 import getpass
 import logging
 import os
-import resource
 import secrets
+import signal
 import socket
 import sys
 import time
@@ -16,6 +16,7 @@ from pathlib import Path
 import psycopg
 from wmbus_service.config import read_config as read_service
 from wmbus_service.ending import Ending
+from wmbus_service.memory_files import leave_no_core
 from wmbus_service.printing import leave_unread, parsed
 from wmbus_service.trouble import Trouble
 
@@ -54,7 +55,7 @@ def main(given: list[str]) -> int:
     except broker.FAULTS as fault:
         said = f"{type(fault).__name__}: {fault}"
     except KeyboardInterrupt:
-        return DONE
+        said = "it was interrupted"
     print(f"wmbus-fleet: {said}", file=sys.stderr)
     return TROUBLE
 
@@ -134,7 +135,7 @@ def _operating_words(command: Command) -> None:
     made.add_argument("--cancel", metavar="ID", help="has this command not be sent any more")
     made = command("rekey", _rekey, "gives a meter of mode 7 its new second key, which is asked for, or read from the standard input")
     made.add_argument("address", metavar="METER")
-    made = command("backup", lambda config, asked: backup.back_up(config, asked.file), "copies the database, also while the fleet works")
+    made = command("backup", _backup, "copies the database, also while the fleet works")
     made.add_argument("file", metavar="FILE", type=Path)
     made = command("restore", _restore, "puts a copy into an empty database, before any part of the fleet is started")
     made.add_argument("file", metavar="FILE", type=Path)
@@ -144,7 +145,7 @@ def _operating_words(command: Command) -> None:
 
 def _ending() -> Ending:
     """What SIGTERM and SIGINT set. No core file with keys is left."""
-    resource.setrlimit(resource.RLIMIT_CORE, (0, 0))
+    leave_no_core()
     ending = Ending()
     ending.heed_signals()
     return ending
@@ -246,6 +247,12 @@ def _status(config: Config, asked: argparse.Namespace) -> None:
             print("\n".join(gateway_words(database)))
         else:
             print(status(database, asked.json))
+
+
+def _backup(config: Config, asked: argparse.Namespace) -> None:
+    # (who ends it so, as a timer whose time is over, finds no part of a copy either)
+    signal.signal(signal.SIGTERM, signal.default_int_handler)
+    backup.back_up(config, asked.file)
 
 
 def _restore(config: Config, asked: argparse.Namespace) -> None:

@@ -6,7 +6,7 @@ from pathlib import Path
 
 from wmbus_service.commands import OPEN, judge_ident, key_of, payload_of
 from wmbus_service.config import NAME, words_of
-from wmbus_service.meters import judge_roster, meters_in, name_of, pieces_of, read_roster
+from wmbus_service.meters import PIECE, judge_roster, meters_in, name_of, pieces_of, read_roster
 from wmbus_service.trouble import Trouble
 
 from . import broker, store
@@ -81,9 +81,11 @@ def commission(config: Config, database: Database, path: Path) -> int:
 
 def take_roster(config: Config, database: Database, text: str, path: object) -> int:
     """Adds a roster's new meters; what is known of the others stays. How many are new. A roster may have any number of meters."""
+    for number, piece in enumerate(pieces_of(text)):
+        # (what is said of a line counts from the piece's first one)
+        judge_roster(words_of(config.programs.steps), piece, f"{path}, behind its first {number * PIECE} meters" if number else path)
     added = 0
     for piece in pieces_of(text):
-        judge_roster(words_of(config.programs.steps), piece, path)
         own, meters = meters_in(piece)
         with store.transaction(database):
             known = store.setting(database, "own")

@@ -4,8 +4,11 @@ from __future__ import annotations
 from dataclasses import dataclass, field
 from pathlib import Path
 
+import psycopg
+from psycopg.conninfo import conninfo_to_dict
 from wmbus_service import config as service
-from wmbus_service.config import program, read_settings, steps_program
+from wmbus_service.config import look_at_programs, program, read_settings, steps_program
+from wmbus_service.trouble import Trouble
 
 
 @dataclass(frozen=True)
@@ -35,6 +38,9 @@ class Broker:
     def nodes(self) -> list[tuple[str, int]]:
         """The host and the port of each node."""
         told = [name.partition(":") for name in self.host.split()]
+        if any(colon and not port.isdecimal() for _, colon, port in told):
+            raise Trouble(f"broker.host {self.host}", "what stands behind a colon there is no port",
+                          "write HOST:PORT; an address of IP version 6 needs a name, in DNS or /etc/hosts")
         return [(host, int(port) if port.isdecimal() else self.port) for host, _, port in told]
 
 
@@ -107,4 +113,11 @@ def read_config(path: Path) -> Config:
     """The configuration of a file."""
     config = read_settings(path, Config, "docs/FLEET.md")
     assert isinstance(config, Config)
+    look_at_programs(path, config.programs)
+    try:
+        conninfo_to_dict(config.database)
+    except psycopg.Error:
+        # (what libpq says of it has what it couldn't read, and so mostly a part of a password)
+        raise Trouble(path, "database isn't in libpq's words",
+                      "a value with blanks stands between ', and a sign that a URI can't have is % and two digits") from None
     return config

@@ -91,7 +91,8 @@ class Demo:
             self._start(self.folder / self._named(name) / "demo.toml", "gateway")
 
     def _start(self, path: Path, part: str) -> None:
-        words = [sys.executable, "-m", "wmbus_fleet", "--config", str(path), part]
+        # (of no module that lies in the folder where the demo is started)
+        words = [sys.executable, "-P", "-m", "wmbus_fleet", "--config", str(path), part]
         environment = os.environ | {"PYTHONPATH": os.pathsep.join(it for it in sys.path if it), "PGAPPNAME": f"wmbus {part}"}
         self.parts.append(lifeline.started(words, self.folder / "parts.log", environment))
 
@@ -138,12 +139,15 @@ class Demo:
         return True
 
     def wait(self, count: int, ending: Ending, say: Say) -> None:
-        """Waits until so many lines are heard."""
-        limit = time.monotonic() + PATIENCE
+        """Waits until so many lines are heard, as long as some are."""
+        limit, before = time.monotonic() + PATIENCE, 0
         while (heard := self.heard()) < count and not ending.is_set():
             self.look_at_parts()
-            if time.monotonic() > limit:
-                raise Trouble("the demo", f"{heard} of {count} telegrams are heard in {PATIENCE:.0f} s", self._last_words())
+            now = time.monotonic()
+            if heard > before:
+                limit, before = now + PATIENCE, heard
+            if now > limit:
+                raise Trouble("the demo", f"{heard} of {count} telegrams are heard, and none for {PATIENCE:.0f} s", self._last_words())
             say(f"{heard} of {count} telegrams are heard")
             ending.wait(1.0)
 
@@ -166,7 +170,7 @@ class Demo:
         begun, is_answered = time.monotonic(), False
         while not ending.wait(STEP):
             due = int((time.monotonic() - begun) / self.seconds * count)
-            while sent < due:
+            while sent < due and not ending.is_set():
                 place = sent % count
                 step = min(due - sent, count - place)
                 self._spool(self.town.sent(place, place + step, int(time.time())))

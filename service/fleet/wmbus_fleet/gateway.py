@@ -2,6 +2,7 @@
 wait armed until their meter is heard."""
 from __future__ import annotations
 
+import fcntl
 import logging
 import os
 import random
@@ -18,6 +19,7 @@ from wmbus_service.config import NAME, words_of
 from wmbus_service.config import Config as ServiceConfig
 from wmbus_service.downlinks import write_downlink
 from wmbus_service.ending import Ending
+from wmbus_service.service import lock
 from wmbus_service.spool import Spool, Spooled, put_places
 from wmbus_service.steps import ProgramFailed
 from wmbus_service.trouble import Trouble
@@ -115,7 +117,7 @@ class Agent:
         if self.database.execute("select 1 from message where not acknowledged limit 1").fetchone():
             return True
         with store.transaction(self.database):
-            self._begin(epoch + 1, [], now)
+            self._begin(epoch + 1, last + 1, now)
         return False
 
     def numbering(self) -> tuple[int, int]:
@@ -155,7 +157,7 @@ class Agent:
             epoch, last = self.numbering()
             if asked.epoch > epoch:
                 # (its state is older than what the fleet knows: nothing of this epoch was taken)
-                self._begin(asked.epoch + 1, self._kept_from(1), now)
+                self._begin(asked.epoch + 1, 1, now)
                 return
             number = asked.number if asked.epoch == epoch else 1
             if number > last:
@@ -163,19 +165,17 @@ class Agent:
             if self.database.execute("select 1 from message where number = ?", (number,)).fetchone():
                 self.database.execute("update message set acknowledged = 0 where number >= ?", (number,))
             else:
-                self._begin(epoch + 1, self._kept_from(number), now)
+                self._begin(epoch + 1, number, now)
 
-    def _kept_from(self, number: int) -> list[tuple[bytes, int, float]]:
-        """The messages from this one on that are kept."""
-        return self.database.execute("select lines, until, made from message where number >= ? order by number", (number,)).fetchall()
-
-    def _begin(self, epoch: int, rows: Sequence[tuple[bytes, int, float]], now: float) -> None:
-        """Begins an epoch with these messages."""
-        self.database.execute("delete from message")
-        self.database.executemany("insert into message (number, lines, until, made) values (?, ?, ?, ?)",
-                                  [(place, *row) for place, row in enumerate(rows, 1)])
-        self.database.execute("update numbering set epoch = ?, last = ?", (max(epoch, int(now)), len(rows)))
-        log.warning("%s: an epoch begins with %d messages that are kept", self.told.name, len(rows))
+    def _begin(self, epoch: int, first: int, now: float) -> None:
+        """Begins an epoch with the messages from this one on that are kept. (Each stays where it is: a week of them has no room in the
+        memory of a small machine.)"""
+        self.database.execute("delete from message where number < ?", (first,))
+        kept = self.database.execute("select number from message order by number").fetchall()
+        self.database.executemany("update message set number = ?, acknowledged = 0 where number = ?",
+                                  [(place, number) for place, (number,) in enumerate(kept, 1)])
+        self.database.execute("update numbering set epoch = ?, last = ?", (max(epoch, int(now)), len(kept)))
+        log.warning("%s: an epoch begins with %d messages that are kept", self.told.name, len(kept))
 
     # ---- downlinks
 
@@ -196,7 +196,8 @@ class Agent:
                 if self.written.get(address) != down:
                     write_downlink(self.radio, frame)
             except OSError as fault:
-                log.warning("%s: the downlink %d of meter %s can't be sent: %s", self.told.name, down, address, fault.strerror)
+                why = fault.strerror if self.radio else "the receiver's configuration names no `downlinks`"
+                log.warning("%s: the downlink %d of meter %s can't be sent: %s", self.told.name, down, address, why)
                 continue
             self.written[address] = down
             self.database.execute("update armed set sent = ? where address = ?", (now, address))
@@ -211,7 +212,7 @@ class Agent:
                 with broker.connected(self.config.broker) as connection:
                     self._serve(connection, ending)
             except (*broker.FAULTS, ProgramFailed, Trouble, sqlite3.Error) as fault:
-                told = f"{self.told.name}: {type(fault).__name__}: {fault}"
+                told = f"{self.told.name}: {type(fault).__name__}: {told_of(fault)}"
                 if told != self.trouble:
                     log.error("%s", told)
                 self.trouble = told
@@ -221,9 +222,9 @@ class Agent:
                     self.number(time.time())
                     unnumbered = ""
                 except (ProgramFailed, Trouble, OSError, sqlite3.Error) as fault:
-                    if str(fault) != unnumbered:
-                        log.error("%s: %s", self.told.name, fault)
-                    unnumbered = str(fault)
+                    if told_of(fault) != unnumbered:
+                        log.error("%s: %s", self.told.name, told_of(fault))
+                    unnumbered = told_of(fault)
                 ending.wait(LOOK)
 
     def _serve(self, connection: Any, ending: Ending) -> None:
@@ -282,11 +283,27 @@ def run(config: Config, told: Gateway, service: ServiceConfig, ending: Ending) -
     if told.receiver not in service.receivers:
         raise Trouble("gateway.receiver", f"the service's configuration has no receiver {told.receiver}", f"see {told.service}")
     store.prepare_folder(service.folder)
-    path = service.folder / f"gateway.{told.name}.db"
+    # (the service on one machine would take its lines away; gateways of other receivers don't)
+    held = lock(service.folder, fcntl.LOCK_SH)
     try:
-        database = open_gateway(path, time.time())
+        with closing(_opened(service.folder / f"gateway.{told.name}.db")) as database:
+            Agent(config, told, service, database).run(ending)
+    finally:
+        os.close(held)
+
+
+def _opened(path: Path) -> sqlite3.Connection:
+    """A gateway's database; what is wrong with it in words."""
+    try:
+        return open_gateway(path, time.time())
     except sqlite3.Error as fault:
-        raise Trouble(path, f"the gateway's database can't be opened: {fault}",
-                      "look at its disk; where it isn't whole take it away, and the receiver's lines in the spool with it") from None
-    with closing(database):
-        Agent(config, told, service, database).run(ending)
+        raise Trouble(path, told_of(fault)) from None
+
+
+def told_of(fault: Exception) -> str:
+    """What is the matter; of the gateway's database also what to do."""
+    if not isinstance(fault, sqlite3.Error):
+        return str(fault)
+    is_damaged = str(getattr(fault, "sqlite_errorname", "")).startswith(("SQLITE_CORRUPT", "SQLITE_NOTADB"))
+    return f"the gateway's database: {fault}; " + ("take it away, and the receiver's lines in the spool with it" if is_damaged
+                                                   else "look at its disk, its owner and its rights")

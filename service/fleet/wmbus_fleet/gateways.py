@@ -23,7 +23,7 @@ def add(config: Config, database: Database, area: str, name: str, folder: Path |
     which a folder for it gets with its configuration, and a known one gets a new password where a folder is named."""
     asked = administration_for(config, name)
     is_known = database.execute("select 1 from gateway where name = %s and gone is null", (name,)).fetchone() is not None
-    if folder is None and asked and not is_known:
+    if folder is None and asked and not (is_known and asked.knows(name)):
         raise Trouble(f"gateway {name}", "its password has to go somewhere", "name a folder: --files FOLDER")
     if folder is not None and asked is None:
         # (says what lacks)
@@ -51,6 +51,7 @@ def put_files(config: Config, folder: Path, area: str, name: str) -> str:
     password = secrets.token_urlsafe(24)
     settings = f"""# the gateway {name} (docs/FLEET.md); beside it stands config.toml with its receiver
 [broker]
+# as the server itself reaches the broker: for 127.0.0.1 write its name, and over a network its port with TLS and tls = true
 host = "{config.broker.host}"
 port = {config.broker.port}
 user = "{name}"

@@ -24,6 +24,7 @@ log = logging.getLogger("wmbus")
 # so many messages in hand (2,000 gateways send a thousand a second), so many lines a transaction
 PREFETCH, MOST = 800, 4000
 LOOK, PAUSE = 0.05, 0.5
+SLACK, SET_BACK = 60, "a message of later moments under a number that was taken before (its file or its clock was set back)"
 # a gateway is asked again where nothing came of it
 ASKED_SECONDS = 2
 
@@ -45,7 +46,7 @@ class Intake:
             put_fences(self.database, told.fences, {message.gateway: message.until for message in taken})
             self._put_missing(fences, taken)
             asked = self._asked(fences, messages, told.answers)
-            put_oddities(self.database, oddities(fences, messages, told.answers, rubbish))
+            put_oddities(self.database, oddities(fences, messages, told.answers, rubbish) + self._set_back(messages, told.answers))
             counts.update(answer.split(" ")[0] for answer in told.answers)
             counts["asked"] = len(asked)
             store.add_totals(self.database, self.worker, counts)
@@ -67,6 +68,16 @@ class Intake:
                 self.database.execute("insert into missing values (%s, %s, %s, %s)", (message.gateway, epoch, number, time.time()))
                 log.warning("%s: an epoch began behind message %d of the one before, whose later ones may be gone", message.gateway, number)
             last[message.gateway] = message.epoch, message.number
+
+    def _set_back(self, messages: Sequence[Message], answers: Sequence[str]) -> Counter[tuple[str, str]]:
+        """Messages under numbers that were taken, though they tell of later moments than all that was: a gateway's file is an older one."""
+        again = [it for it, answer in zip(messages, answers, strict=True) if answer == "again"]
+        if not again:
+            return Counter()
+        rows = self.database.execute("select name, epoch, until from gateway where name = any(%s)", ([it.gateway for it in again],))
+        # (a clock is set right by some seconds again and again)
+        last = {name: (epoch, until + SLACK) for name, epoch, until in rows.fetchall()}
+        return Counter((it.gateway, SET_BACK) for it in again if it.epoch == last[it.gateway][0] and it.until > last[it.gateway][1])
 
     def _asked(self, fences: Mapping[str, Fence], messages: Sequence[Message], answers: Sequence[str]) -> list[Again]:
         """Whom to ask for what, each not too often."""
@@ -181,11 +192,12 @@ class Consuming:
         return count
 
     def _count(self) -> int:
-        """How many messages the batch has, one at least: no more lines than one transaction takes."""
+        """How many messages the batch has, one at least: no more messages and lines than one transaction takes. (Of each area the broker
+        gives so many.)"""
         lines = 0
         for count, (_, _, message) in enumerate(self.held):
             lines += len(message.lines) if message else 0
-            if count and lines > MOST:
+            if count and lines > MOST or count == PREFETCH:
                 return count
         return len(self.held)
 

@@ -17,7 +17,7 @@ from wmbus_service.ending import Ending
 from wmbus_service.metrics import COUNTERS as OF_SESSIONS
 from wmbus_service.trouble import Trouble
 
-from . import broker
+from . import broker, store
 from .config import Config, Metrics
 from .view import looking
 from .view.door import FleetDoor
@@ -65,6 +65,8 @@ class Taken:
     gauges: dict[str, float] = field(default_factory=dict)
     labelled: dict[str, dict[str, float]] = field(default_factory=dict)
     moment: float = 0.0
+    # what couldn't be had, and why
+    troubles: list[str] = field(default_factory=list)
 
 
 def take(config: Config) -> Taken:
@@ -96,21 +98,21 @@ def _take_queues(config: Config, taken: Taken, areas: list[str]) -> None:
     """How many messages wait with the broker."""
     try:
         with broker.connected(config.broker) as connection:
-            taken.labelled["queue_messages"] = dict(_depths(connection, areas))
+            taken.labelled["queue_messages"] = dict(_depths(connection, areas, taken.troubles))
         taken.gauges["broker_up"] = 1.0
     except (Trouble, *broker.FAULTS) as fault:
-        log.error("the metrics: the broker: %s: %s", type(fault).__name__, fault)
+        taken.troubles.append(f"the broker: {store.told_of(fault)}")
         taken.gauges["broker_up"] = 0.0
 
 
-def _depths(connection: Any, areas: list[str]) -> Iterator[tuple[str, float]]:
-    """How many messages wait for an intake of each area; of one without a queue nothing is told."""
+def _depths(connection: Any, areas: list[str], troubles: list[str]) -> Iterator[tuple[str, float]]:
+    """How many messages wait for an intake of each area; of one without a queue that is said."""
     channel = broker.opened(connection)
     for area in areas:
         try:
             yield area, float(broker.depth(channel, broker.area_queue(area)))
         except ChannelClosedByBroker as fault:
-            log.error("the metrics: the broker: %s", fault)
+            troubles.append(f"the broker: {fault}")
             channel = broker.opened(connection)
 
 
@@ -118,15 +120,17 @@ class Figures(Collector):
     """What was taken last."""
 
     def __init__(self) -> None:
-        self.taken = Taken()
+        # (none yet)
+        self.taken = Taken(moment=time.time())
 
     def collect(self) -> Iterator[Metric]:
         """All metrics."""
         taken = self.taken
         yield GaugeMetricFamily(f"{PREFIX}figures_age_seconds", "how old these figures are", value=time.time() - taken.moment)
-        for name, words in COUNTERS.items():
-            counter = CounterMetricFamily(f"{PREFIX}{name}", f"{words}, over all starts")
-            counter.add_metric([], taken.counters.get(name, 0.0))
+        # (before any are taken there are none: after a nought each of these would seem to have risen from there in a moment)
+        for name, number in taken.counters.items():
+            counter = CounterMetricFamily(f"{PREFIX}{name}", f"{COUNTERS[name]}, over all starts")
+            counter.add_metric([], number)
             yield counter
         for name, words in GAUGES.items():
             if name in taken.gauges:
@@ -145,13 +149,19 @@ def run(config: Config, ending: Ending) -> None:
     registry.register(figures)
     try:
         start_http_server(told.port, addr=told.host, registry=registry)
-    except (OSError, OverflowError) as fault:
+    except (OSError, OverflowError, UnicodeError) as fault:
         raise Trouble(f"metrics.host {told.host} and metrics.port {told.port}", f"the metrics can't be served: {fault}",
-                      "name another port, or end what uses this one") from None
+                      "name another host or port, or end what uses this one") from None
+    told_before: list[str] = []
     while True:
         try:
             figures.taken = take(config)
+            troubles = figures.taken.troubles
         except (psycopg.Error, Trouble) as fault:
-            log.error("the metrics: %s", str(fault).strip())
+            troubles = [store.told_of(fault)]
+        for trouble in troubles:
+            if trouble not in told_before:
+                log.error("the metrics: %s", trouble)
+        told_before = troubles
         if ending.wait(INTERVAL):
             return

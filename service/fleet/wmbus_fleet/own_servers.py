@@ -5,6 +5,7 @@ from __future__ import annotations
 import importlib.util
 import os
 import random
+import secrets
 import shutil
 import signal
 import socket
@@ -17,6 +18,7 @@ from dataclasses import dataclass
 from pathlib import Path
 
 import psycopg
+from wmbus_service.memory_files import memory_files, path_of
 from wmbus_service.trouble import Trouble
 
 from . import broker, lifeline
@@ -29,6 +31,7 @@ ENDING = 20
 # below those of connections (net.ipv4.ip_local_port_range)
 PORTS = 16_384, 32_768
 TRIES = 3
+SAID_MOST = 3000
 FOLDERS = "/usr/sbin:/usr/bin:/sbin:/bin"
 # a runtime that doesn't spin while it has nothing to do
 ERLANG = "+sbwt none +sbwtdcpu none +sbwtdio none +S 2:2"
@@ -65,7 +68,7 @@ def until(is_done: Callable[[], object], server: Server) -> None:
 
 def slow(log: Path) -> Trouble:
     """A server that doesn't come up."""
-    return Trouble(log.stem, "it ended, or doesn't answer", log.read_text(encoding="utf-8", errors="replace")[-3000:])
+    return Trouble(log.stem, "it ended, or doesn't answer", log.read_text(encoding="utf-8", errors="replace")[-SAID_MOST:])
 
 
 def _listens(port: int) -> bool:
@@ -110,14 +113,22 @@ class Postgres(Server):
     def __init__(self, folder: Path) -> None:
         super().__init__(folder / "postgres.log")
         self.folder, self.port = folder / "postgres", free_port()
-        self.user = None if os.geteuid() else "postgres"
+        self.user, self.password = None if os.geteuid() else "postgres", secrets.token_hex(16)
         self.folder.mkdir(mode=0o700)
         if self.user:
             shutil.chown(self.folder, self.user)
-        words = [str(POSTGRES / "initdb"), "-D", str(self.folder), "-A", "trust", "-U", "postgres", "-E", "UTF8", "--locale=C", "-N"]
-        subprocess.run(words, stdout=subprocess.DEVNULL, user=self.user, check=True, cwd="/")
+        self._make_files()
         with open(self.folder / "postgresql.conf", "a", encoding="ascii") as conf:
             conf.write(f"listen_addresses = '127.0.0.1'\nport = {self.port}\nunix_socket_directories = ''\nshared_buffers = 64MB\n")
+
+    def _make_files(self) -> None:
+        """Makes its files. (Its superuser has programs started in its user's name, and so no other user of the machine gets in.)"""
+        words = [str(POSTGRES / "initdb"), "-D", str(self.folder), "-A", "scram-sha-256", "-U", "postgres", "-E", "UTF8", "--locale=C", "-N"]
+        with memory_files([self.password.encode()]) as opened:
+            made = subprocess.run([*words, f"--pwfile={path_of(opened[0])}"], stdin=subprocess.DEVNULL, capture_output=True, text=True,
+                                  pass_fds=opened, user=self.user, check=False, cwd="/")
+        if made.returncode:
+            raise Trouble("initdb", made.stderr.strip()[-SAID_MOST:])
 
     def start(self) -> None:
         """Starts it, and waits until it answers."""
@@ -135,7 +146,7 @@ class Postgres(Server):
 
     def words(self, name: str, user: str = "postgres") -> str:
         """How a database is reached."""
-        return f"host=127.0.0.1 port={self.port} user={user} dbname={name}"
+        return f"host=127.0.0.1 port={self.port} user={user} password={self.password} dbname={name}"
 
     def make(self, name: str) -> str:
         """Makes a database."""

@@ -13,17 +13,20 @@ _WAITING = " union all ".join(
 LATE = """create or replace view page.late as select count(*) as count, min(m.due) as since from public.meter m
     left join public.gateway g on g.name = m.gateway where m.due < extract(epoch from now()) - 60 and (g.name is null or g.until > m.due);"""
 
+# (access codes, passwords and keys of a meter are among the unknown quantities)
+RECORD = """create or replace view page.record as
+    select r.line as reading, e.place - 1 as place, e.it ->> 'quantity' as quantity, e.it ->> 'unit' as unit,
+        (e.it ->> 'exponent')::integer as exponent, e.it ->> 'value' as value, e.it ->> 'function' as function,
+        (e.it ->> 'storage')::bigint as storage, (e.it ->> 'tariff')::bigint as tariff, (e.it ->> 'subunit')::bigint as subunit,
+        e.it ->> 'modifiers' as modifiers, case e.it ->> 'quantity' when 'unknown' then '' else e.it ->> 'raw' end as raw
+    from public.reading r cross join lateral json_array_elements(r.records) with ordinality as e (it, place)
+    where e.it ->> 'quantity' is not null;"""
+
 VIEWS = f"""
 create schema page;
 create view page.meter as select address, name, gateway as receiver, gateway, heard from public.meter;
 create view page.reading as select line as id, line, address, counter, moment, gateway as receiver, made from public.reading;
-create view page.record as
-    select r.line as reading, e.place - 1 as place, e.it ->> 'quantity' as quantity, e.it ->> 'unit' as unit,
-        (e.it ->> 'exponent')::integer as exponent, e.it ->> 'value' as value, e.it ->> 'function' as function,
-        (e.it ->> 'storage')::bigint as storage, (e.it ->> 'tariff')::bigint as tariff, (e.it ->> 'subunit')::bigint as subunit,
-        e.it ->> 'modifiers' as modifiers, e.it ->> 'raw' as raw
-    from public.reading r cross join lateral json_array_elements(r.records) with ordinality as e (it, place)
-    where e.it ->> 'quantity' is not null;
+{RECORD}
 -- no day's last value outlives its reading here
 create view page.daily as select ''::text as address, ''::text as day, ''::text as quantity, ''::text as unit, 0 as exponent,
     ''::text as value, ''::text as function, 0 as storage, 0 as tariff, 0 as subunit where false;

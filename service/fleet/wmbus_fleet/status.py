@@ -56,7 +56,8 @@ def figures(database: Database) -> dict[str, Any]:
         "downlinks_missed": _rows(database, "select address, gateway, down, missed from outbox where missed is not null"
                                             f" order by id desc limit {LAST}"),
         "refusals": _rows(database, f"select address, words, times from refusal order by last_made desc limit {LAST}"),
-        "strangers": _rows(database, f"select address, times, gateway from stranger order by times desc limit {LAST}"),
+        "strangers": _rows(database, "select address, times, gateway from stranger s where not exists"
+                                     f" (select 1 from meter m where m.address = s.address) order by times desc limit {LAST}"),
         "aside": _rows(database, f"select id, gateway, text, said from aside order by id desc limit {LAST}"),
     }
 

@@ -30,10 +30,7 @@ def connect(words: str, is_restored: bool = True) -> Database:
     version = _version(database)
     if version != schema.VERSION:
         database.close()
-        raise Trouble("the database", "it hasn't the fleet's tables" if version is None else
-                      f"its tables are of version {version}, and this program knows {schema.VERSION}",
-                      "`wmbus-fleet init` makes them" if version is None or version < schema.VERSION
-                      else "install the release that fits")
+        raise _of_another(version)
     if is_restored and one(database, "select to_regclass('restoring') is not null"):
         database.close()
         raise Trouble("the database", "a copy is put into it, and `wmbus-fleet restore` hasn't ended: its counters may be those of before",
@@ -54,14 +51,32 @@ def init(words: str) -> None:
             database.execute("select pg_advisory_xact_lock(%s, 0)", (TABLES,))
             version = _version(database)
             if version is None:
+                look_at_encoding(database)
                 database.execute(schema.TABLES + schema.INBOXES + page_tables.VIEWS)
             elif version == 1:
                 database.execute(schema.SECOND + page_tables.VIEWS)
             elif version == schema.VERSION:
-                # (the first releases of this version counted ticks that wait too)
-                database.execute(page_tables.LATE)
+                # (the first releases of this version counted ticks that wait too, and showed what meters send of unknown quantities)
+                database.execute(page_tables.LATE + page_tables.RECORD)
+            else:
+                raise _of_another(version)
             if version in (None, 1):
                 set_setting(database, "version", str(schema.VERSION))
+
+
+def look_at_encoding(database: Database) -> None:
+    """A database whose texts can't be all that a fleet's are; one without an encoding gives bytes in place of texts."""
+    encoding = database.info.parameter_status("server_encoding")
+    if encoding != "UTF8":
+        raise Trouble("the database", f"its encoding is {encoding}, and a fleet's is UTF8", "`createdb -E UTF8 -T template0` makes one")
+
+
+def _of_another(version: int | None) -> Trouble:
+    """What is wrong where the tables aren't this release's."""
+    if version is None:
+        return Trouble("the database", "it hasn't the fleet's tables", "`wmbus-fleet init` makes them")
+    return Trouble("the database", f"its tables are of version {version}, and this program knows {schema.VERSION}",
+                   "`wmbus-fleet init` makes them" if 0 < version < schema.VERSION else "install the release that fits")
 
 
 def _version(database: Database) -> int | None:

@@ -63,6 +63,9 @@ class FleetDoor:
 
     def cancel_command(self, address: str, ident: str, now: float) -> str | None:
         """Cancels a meter's command; the state that it has, none where there is no such command."""
+        if "\0" in address + ident:
+            # (PostgreSQL has no such texts)
+            return None
         with store.connect(self.config.database) as database:
             if not database.execute("select 1 from command where id = %s and address = %s", (ident, address)).fetchone():
                 return None

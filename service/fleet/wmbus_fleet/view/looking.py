@@ -18,6 +18,7 @@ from ..status import PARTS, SILENT, UNITS
 MOST, FEW = 100, 10
 DAY = 86_400.0
 LAG = 300
+LETTERS = 'collate "und-x-icu"'
 # (each goes once over the meters, of which there may be a million)
 METERS = """
 select count(*) as meters, count(heard) as read, count(*) filter (where heard < ?) as silent_meters,
@@ -188,8 +189,9 @@ def meters(database: Database, now: float, asked: dict[str, str]) -> dict[str, A
 
 def _looked_for(text: str) -> tuple[str, list[Any]]:
     """How a meter is looked for: by a part of its name, the first digits of its address, or the number on its label."""
-    conditions: list[str] = ["position(? in lower(m.name)) > 0"]
-    values: list[Any] = [text.lower()]
+    # (of some locales, as C, PostgreSQL's own lower() knows the letters of ASCII alone)
+    conditions: list[str] = [f"position(lower(?::text {LETTERS}) in lower(m.name {LETTERS})) > 0"]
+    values: list[Any] = [text]
     if re.fullmatch("[0-9a-fA-F]{4,16}", text):
         conditions.append("left(m.address, ?) = ?")
         values += [len(text), text.lower()]
