@@ -80,7 +80,7 @@ class Place:
     def hear(self, lines: str) -> None:
         """Has the service hear these lines, in this process."""
         config = read_config(self.config)
-        number = len(list(config.spool.iterdir())) + 1
+        number = max((int(path.name.split(".")[1]) for path in config.spool.iterdir()), default=0) + 1
         (config.spool / f"attic.{number:08d}.1.lines").write_text(lines)
         Service(config, open_store(config.database)).turn()
 
@@ -125,6 +125,27 @@ def test_from_nothing_to_readings(place: Place) -> None:
     assert "no command" in place.fault("command", ADDRESS, "01", "--cancel", "")
     with sqlite3.connect(place.folder / "wmbus/wmbus.db") as database:
         assert database.execute("select id from command").fetchall() == [("a1",)]
+
+
+def test_a_key_that_is_corrected(place: Place) -> None:
+    """A meter with a wrong key gets the right one, with which what it sends from then on is read; nothing else of it changes, and what was
+    refused under the wrong one is told no more."""
+    place.said("add", ADDRESS, "--own", OWN, "--name", "cellar", given=KEY[::-1])
+    place.hear(recorded())
+    told = json.loads(place.said("status", "--json"))
+    assert [it["counter"] for it in told["meters"]] == [None] and told["refusals"]
+    assert "no meter" in place.fault("correct", "0" * 16, given=KEY)
+    assert f"key of {ADDRESS}: it isn't 32" in place.fault("correct", ADDRESS, given=KEY[1:])
+    assert place.said("correct", ADDRESS.upper(), given=f"{KEY}\n") == f"meter {ADDRESS} has another key\n"
+    assert not json.loads(place.said("status", "--json"))["refusals"]
+    place.hear(recorded())
+    told = json.loads(place.said("status", "--json"))
+    assert [(it["name"], it["counter"]) for it in told["meters"]] == [("cellar", 8)]
+    # (its counter stays: what was stored isn't stored again)
+    values = place.said("export", "--json")
+    place.said("correct", ADDRESS, given=KEY)
+    place.hear(recorded())
+    assert place.said("export", "--json") == values
 
 
 @pytest.mark.parametrize("address, own, key, words", [
@@ -619,7 +640,7 @@ def test_words(place: Place) -> None:
     """Faulty words end with status 2, and each command has its help."""
     assert place.run("rum").status == 2
     assert place.run().status == 2
-    for name in ("run", "receive", "check", "status", "add", "import", "rekey", "command", "export", "backup", "restore", "demo"):
+    for name in ("run", "receive", "check", "status", "add", "import", "correct", "rekey", "command", "export", "backup", "restore", "demo"):
         assert name in place.said("--help")
         assert "exit status" in place.said(name, "--help")
 

@@ -179,7 +179,7 @@ def test_known_meters_with_another_key(place: Place) -> None:
     """They stay as they are, which is said: nobody who had the right key at last would wait for what is read by it."""
     place.said("import", str(listed(place, f"address;key\n{HEAT};{KEY}\n")), "--own", OWN)
     path = listed(place, f"address;key\n{HEAT};{'ff' * 16}\n{GAS};{KEY}\n")
-    assert place.said("import", str(path)) == "1 new meters; 1 are known with another key, and keep theirs\n"
+    assert place.said("import", str(path)) == "1 new meters; 1 are known with another key, and keep theirs (`correct` changes it)\n"
     assert known(place)[HEAT].split(" ")[3] == KEY
 
 

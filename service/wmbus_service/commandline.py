@@ -107,6 +107,8 @@ def _meter_words(command: Command) -> None:
     made.add_argument("--mode", choices=MODES, default="7", help="the security mode where the list names none, 7 where none is named here")
     made.add_argument("--heard", action="store_true", help="leaves out meters that weren't heard yet")
     made.add_argument("--own", metavar="ADDRESS", help="the collector's own address, with the first meters")
+    made = command("correct", _correct, "gives a meter another key in the place of its own, which was wrong; it is asked for as with `add`")
+    made.add_argument("address", metavar="METER", type=_text)
     made = command("rekey", _rekey, "gives a meter of mode 7 its new second key, which is asked for as with `add`")
     made.add_argument("address", metavar="METER", type=_text)
 
@@ -226,12 +228,12 @@ def _add(asked: argparse.Namespace) -> int:
     address = _digits(f"meter {asked.address}", asked.address.lower(), 16, "`meter_name` makes it of what stands on the label")
     with _opened(config, True) as database:
         own = _own(config, database, asked.own)
-        key = _digits(f"key of {address}", _key(asked.address), 32, "copy it again")
+        key = _key_of(address)
         text = f"wmbus-roster 2\nown {own}\nmeter {address} {asked.mode} {key} - - 0 0\n"
         added = meters.take_roster(config, database, text, f"meter {asked.address}", meters.name_of(asked.name))
         if not added:
             raise Trouble(f"meter {asked.address}", "it is known already",
-                          "its key stays as it is; `wmbus-service rekey` gives a second one")
+                          "its key stays as it is; `wmbus-service correct` gives it another one, and `rekey` a second one")
     print(f"meter {address} was added")
     return DONE
 
@@ -265,6 +267,10 @@ def _key(address: str) -> str:
     return _secret(f"key of {address}").strip().lower().replace(" ", "")
 
 
+def _key_of(address: str) -> str:
+    return _digits(f"key of {address}", _key(address), 32, "copy it again")
+
+
 def _import(asked: argparse.Namespace) -> int:
     # (the list may be one that root alone can read)
     content = key_lists.read_content(asked.list)
@@ -273,8 +279,17 @@ def _import(asked: argparse.Namespace) -> int:
     with _opened(config, True) as database:
         wish = importing.Wish(_own(config, database, asked.own), asked.mode, asked.heard)
         added, others, left = importing.take_list(config, database, asked.list, rows, wish)
-    print(f"{added} new meters" + (f"; {others} are known with another key, and keep theirs" if others else "")
+    print(f"{added} new meters" + (f"; {others} are known with another key, and keep theirs (`correct` changes it)" if others else "")
           + (f"; {left} weren't heard yet, and are left" if left else ""))
+    return DONE
+
+
+def _correct(asked: argparse.Namespace) -> int:
+    config, address = _config(asked), asked.address.lower()
+    with _opened(config) as database:
+        meters.judge_known(database, address, f"meter {address}")
+        meters.correct_key(config, database, address, _key_of(address))
+    print(f"meter {address} has another key")
     return DONE
 
 

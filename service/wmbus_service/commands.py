@@ -22,7 +22,7 @@ def put_command(database: sqlite3.Connection, ident: str, address: str, payload:
 
 def put_key(database: sqlite3.Connection, ident: str, address: str, key: str, now: float) -> bool:
     """Takes a meter's new second key; whether its id is new."""
-    return _put(database, ident, address.lower(), "rekey", key_of(ident, key), now)
+    return _put(database, ident, address.lower(), "rekey", key_of(f"command {ident}", key), now)
 
 
 def payload_of(ident: str, payload: str) -> str:
@@ -32,10 +32,10 @@ def payload_of(ident: str, payload: str) -> str:
     return payload.lower()
 
 
-def key_of(ident: str, key: str) -> str:
+def key_of(place: str, key: str) -> str:
     """A new key, in lower case."""
     if not KEY.fullmatch(key.lower()):
-        raise Trouble(f"command {ident}", "the key isn't 32 hexadecimal digits")
+        raise Trouble(place, "the key isn't 32 hexadecimal digits")
     return key.lower()
 
 

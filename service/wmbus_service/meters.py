@@ -125,3 +125,24 @@ def take_roster(config: Config, database: sqlite3.Connection, text: str, place: 
     if added:
         log.info("%d new meters of %s", len(added), place)
     return len(added)
+
+
+def with_key(program: Sequence[str], own: str, block: str, key: str, place: object) -> str:
+    """A meter's block with another key in the place of its own, which the program has to take. All else stays, its counters first."""
+    line, _, rest = block.partition("\n")
+    fields = line.split(" ")
+    fields[KEY_PLACE] = key
+    line = " ".join(fields)
+    judge_roster(program, f"wmbus-roster 2\nown {own}\n{line}\n", place)
+    return f"{line}\n{rest}"
+
+
+def correct_key(config: Config, database: sqlite3.Connection, address: str, key: str) -> None:
+    """Gives a meter another key. What was refused under the one before is told no more."""
+    place = f"meter {address}"
+    with store.transaction(database):
+        judge_known(database, address, place)
+        (block,) = database.execute("select block from meter where address = ?", (address,)).fetchone()
+        block = with_key(words_of(config.programs.steps), store.setting(database, "own") or "", block, key, place)
+        database.execute("update meter set block = ? where address = ?", (block, address))
+        database.execute("delete from refusal where address = ?", (address,))

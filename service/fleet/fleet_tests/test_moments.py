@@ -27,7 +27,8 @@ import psycopg
 import pytest
 from psycopg.conninfo import conninfo_to_dict, make_conninfo
 from tests.kill import PYTHON
-from tests.meters import line_of, next_telegrams, roster_of, some_meters
+from messages import whole
+from tests.meters import line_of, next_telegrams, payload_of, roster_of, some_meters
 from tests.processes import run, started, until
 from tests.stand_in import stand_in
 from wmbus_fleet import (
@@ -49,7 +50,7 @@ from wmbus_service.config import Receiver
 from wmbus_service.ending import Ending
 from wmbus_service.service import lock
 from wmbus_service.spool import LONGEST
-from wmbus_service.steps import ProgramFailed
+from wmbus_service.steps import ProgramFailed, run_steps
 from wmbus_service.store import prepare_folder
 from wmbus_service.trouble import Trouble
 
@@ -83,6 +84,37 @@ def test_cancelled_while_a_session_has_it(fleet: Fleet, monkeypatch: pytest.Monk
         cancelling.join(LIMIT)
     hearing.session(shard, NOW)
     assert [*said, store.one(fleet.database, "select state from command")] == states
+
+
+def test_a_key_that_is_corrected(fleet: Fleet, monkeypatch: pytest.MonkeyPatch) -> None:
+    """Also while a session has the meter in hand, which writes what it knows of it at its end: what comes then is read."""
+    meter = fleet.meters[0]
+    shard = store.one(fleet.database, "select shard_of(%s)", (meter.name,))
+    fleet.database.execute("update meter set block = replace(block, %s, %s) where address = %s", (meter.key.hex(), 32 * "5", meter.name))
+    hearing = sessions.Sessions(fleet.config, fleet.database)
+
+    def hear(number: int) -> None:
+        text = line_of(whole(meter.key, meter.address, number, payload_of(number), 0x44, None), int(NOW)).rstrip()
+        store.copy_rows(fleet.database, "inbox (address, gateway, epoch, message, place, text)",
+                        [(meter.name, fleet.gateway, 1, number, 1, text)])
+        assert hearing.session(shard, NOW) == 1
+
+    with store.connect(fleet.config.database) as other:
+        correcting = threading.Thread(target=commands.correct_key, args=(fleet.config, other, meter.name.upper(), meter.key.hex().upper()))
+        with monkeypatch.context() as patched:
+            def run(*words: Any) -> Any:
+                correcting.start()
+                correcting.join(1)
+                return run_steps(*words)
+            patched.setattr(sessions, "run_steps", run)
+            hear(1)
+        correcting.join(LIMIT)
+    assert store.one(fleet.database, "select count(*) from refusal") == 0
+    hear(2)
+    assert fleet.database.execute("select address, counter from reading").fetchall() == [(meter.name, 2)]
+    for address, key, words in ((16 * "0", 32 * "0", "there is no meter"), (meter.name, "00", "isn't 32 hexadecimal digits")):
+        with pytest.raises(Trouble, match=words):
+            commands.correct_key(fleet.config, fleet.database, address, key)
 
 
 def test_a_tick_waits_for_its_meters_own_lines(fleet: Fleet) -> None:

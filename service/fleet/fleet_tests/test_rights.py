@@ -246,7 +246,7 @@ def test_each_word_has_its_help(capsys: pytest.CaptureFixture[str]) -> None:
         commandline.main(["--help"])
     words = [line.split()[0] for line in capsys.readouterr().out.splitlines() if line.startswith("    ") and line[4] != " "]
     assert {"gateway", "intake", "sessions", "downlinks", "page", "metrics", "demo", "init", "area", "gateways", "remove", "commission",
-            "command", "commands", "rekey", "status", "backup", "restore"} == set(words)
+            "command", "commands", "correct", "rekey", "status", "backup", "restore"} == set(words)
     for word in words:
         with pytest.raises(SystemExit) as ended:
             commandline.main([word, "--help"])

@@ -133,6 +133,8 @@ def _operating_words(command: Command) -> None:
     made.add_argument("payload", metavar="HEX", nargs="?", help="what the meter gets, 1 to 94 bytes")
     made.add_argument("--id", help="your own id of the command; under one id a command is taken once")
     made.add_argument("--cancel", metavar="ID", help="has this command not be sent any more")
+    made = command("correct", _correct, "gives a meter another key in the place of its own, which was wrong; it is asked for as with `rekey`")
+    made.add_argument("address", metavar="METER")
     made = command("rekey", _rekey, "gives a meter of mode 7 its new second key, which is asked for, or read from the standard input")
     made.add_argument("address", metavar="METER")
     made = command("backup", _backup, "copies the database, also while the fleet works")
@@ -229,15 +231,26 @@ def _command(config: Config, asked: argparse.Namespace) -> None:
             raise Trouble("command", "give METER and HEX, or --cancel ID")
 
 
-def _rekey(config: Config, asked: argparse.Namespace) -> None:
+def _key() -> str:
+    """A key, which no list of processes shows."""
     try:
         key = getpass.getpass("new key: ") if sys.stdin.isatty() else sys.stdin.readline()
     except EOFError:
         raise Trouble("the new key", "none was given") from None
+    # (delivery notes have blanks in it)
+    return key.strip().replace(" ", "")
+
+
+def _correct(config: Config, asked: argparse.Namespace) -> None:
+    with store.connect(config.database) as database:
+        commands.correct_key(config, database, asked.address, _key())
+    print(f"meter {asked.address.lower()} has another key")
+
+
+def _rekey(config: Config, asked: argparse.Namespace) -> None:
     with store.connect(config.database) as database:
         ident = secrets.token_hex(8)
-        # (delivery notes have blanks in it)
-        commands.put_key(database, ident, asked.address, key.strip().replace(" ", ""), time.time())
+        commands.put_key(database, ident, asked.address, _key(), time.time())
         print(ident)
 
 

@@ -6,7 +6,7 @@ from pathlib import Path
 
 from wmbus_service.commands import OPEN, judge_ident, key_of, payload_of
 from wmbus_service.config import NAME, words_of
-from wmbus_service.meters import PIECE, judge_roster, meters_in, name_of, pieces_of, read_roster
+from wmbus_service.meters import PIECE, judge_roster, meters_in, name_of, pieces_of, read_roster, with_key
 from wmbus_service.trouble import Trouble
 
 from . import broker, store
@@ -21,13 +21,33 @@ def put_command(database: Database, ident: str, address: str, payload: str, now:
 
 def put_key(database: Database, ident: str, address: str, key: str, now: float) -> bool:
     """Takes a meter's new second key; whether its id is new."""
-    return _put(database, ident, address.lower(), "rekey", key_of(ident, key), now)
+    return _put(database, ident, address.lower(), "rekey", key_of(f"command {ident}", key), now)
+
+
+def correct_key(config: Config, database: Database, address: str, key: str) -> None:
+    """Gives a meter another key in the place of its own, which was wrong; all else that is known of it stays, its counters first. What was
+    refused under the one before is told no more."""
+    place, address = f"meter {address}", address.lower()
+    with store.transaction(database):
+        # (a session that has the meter in hand ends before)
+        database.execute("select pg_advisory_xact_lock(%s, shard_of(%s))", (store.SESSIONS, address))
+        block = _block_of(database, address, place)
+        block = with_key(words_of(config.programs.steps), store.setting(database, "own") or "", block, key_of(place, key), place)
+        database.execute("update meter set block = %s where address = %s", (block, address))
+        database.execute("delete from refusal where address = %s", (address,))
+
+
+def _block_of(database: Database, address: str, place: str) -> str:
+    """What is known of a meter."""
+    row = database.execute("select block from meter where address = %s", (address,)).fetchone()
+    if row is None:
+        raise Trouble(place, f"there is no meter {address}", "`wmbus-fleet commission ROSTER` adds meters")
+    return str(row[0])
 
 
 def _put(database: Database, ident: str, address: str, kind: str, payload: str, now: float) -> bool:
     judge_ident(ident)
-    if not database.execute("select 1 from meter where address = %s", (address,)).fetchone():
-        raise Trouble(f"command {ident}", f"there is no meter {address}", "`wmbus-fleet commission ROSTER` adds meters")
+    _block_of(database, address, f"command {ident}")
     added = database.execute("insert into command (id, address, kind, payload, made, changed) values (%s, %s, %s, %s, %s, %s)"
                              " on conflict do nothing", (ident, address, kind, payload, now, now))
     return bool(added.rowcount)
