@@ -237,6 +237,26 @@ def test_a_connection_that_is_reset_at_once(house: House, monkeypatch: pytest.Mo
         connecting.join(PATIENCE)
 
 
+@pytest.mark.parametrize("fault, has_trace", [(broker.Lost("gone"), False), (TimeoutError("gone"), False), (KeyError("gone"), True)])
+def test_what_a_connection_ends_by(house: House, monkeypatch: pytest.MonkeyPatch, caplog: pytest.LogCaptureFixture, fault: Exception,
+                                   has_trace: bool) -> None:
+    """Whatever that is, the next one follows; the log has where a fault came from that isn't one of the connection, the database or words."""
+    tried: list[int] = []
+
+    def connect(*_words: object) -> None:
+        tried.append(1)
+        raise fault
+    monkeypatch.setattr(broker, "_connect", connect)
+    ending = Ending()
+    connecting = broker.Broker(house.config, Mqtt(), ending)
+    connecting.start()
+    until(lambda: not connecting.is_alive() or len(tried) > 1)
+    assert connecting.is_alive()
+    ending.set()
+    connecting.join(PATIENCE)
+    assert "gone" in caplog.text and ("Traceback" in caplog.text) == has_trace
+
+
 def test_a_slow_way_to_the_broker(monkeypatch: pytest.MonkeyPatch) -> None:
     """Messages are given up where no answer comes for long, and not where each of many takes its time: else all of them would go out
     again and again."""

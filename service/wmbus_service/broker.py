@@ -42,6 +42,10 @@ class Lost(Exception):
     """The connection to the broker is no more, and why."""
 
 
+# by what a connection ends; of anything else the log has also where it came from
+FORESEEN = (Lost, OSError, sqlite3.Error, Trouble)
+
+
 class Broker(threading.Thread):
     """What goes to the broker and comes from it, whatever a connection ends by."""
 
@@ -60,7 +64,8 @@ class Broker(threading.Thread):
                     self._serve(self._connection(database), database)
             except Exception as fault:
                 if str(fault) != said:
-                    log.warning("MQTT: %s:%d: %s; it is tried again", self.told.host, self.told.port, fault)
+                    log.warning("MQTT: %s:%d: %s; it is tried again", self.told.host, self.told.port, fault,
+                                exc_info=not isinstance(fault, FORESEEN))
                     said = str(fault)
             self.is_connected = False
             pause = LEAST_PAUSE if time.monotonic() - began > PATIENCE else min(2 * pause, MOST_PAUSE)
