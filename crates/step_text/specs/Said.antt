@@ -1,5 +1,5 @@
 -- What a line of a receiver says, with its cause where it says nothing.
-use Rattle.std.specs.Prelude.{ℕ, ◌≡◌, List, Result, Ok, Err}
+use Rattle.std.specs.Prelude.{ℕ, List, Result, Ok, Err}
 use Rattle.frame_formats.specs.declared.fault.FrameFault.{FrameFault}
 use Rattle.line_reader.specs.declared.line.BadLine.{BadLine}
 use Rattle.line_reader.specs.declared.line.Line.{Line}
@@ -7,9 +7,6 @@ use Rattle.line_reader.specs.Grammar.{line_of}
 use Rattle.meter_address.specs.declared.address.Address.{Address}
 use Rattle.meter_slots.specs.declared.entry.Event.{Event}
 use Rattle.meter_slots.specs.Telling.{event_of_line}
-use Rattle.receivers.specs.declared.told.Told.{Told}
-use Rattle.receivers.specs.declared.told.Told.TheVariants as told
-use Rattle.receivers.specs.Told.{told_of}
 use Rattle.step_text.specs.declared.said.Said.{Said}
 use Rattle.step_text.specs.declared.said.Said.TheVariants as said
 
@@ -28,13 +25,3 @@ said_by_reading (Err bad) = said.Bad bad
 -- what a line's text says
 unfoldable pub said_of : List ℕ → Said
 said_of text = said_by_reading (line_of text)
-
--- what it tells a collector, which takes no causes
-abbrev pub told_in : Said → Told
-told_in (said.Event address event) = told.Event address event
-told_in (said.Unframed fault) = told.Unframed
-told_in (said.Bad bad) = told.Bad
-
--- a line tells what it says
-abbrev pub SaidIsTold : Type 0
-SaidIsTold = (text : List ℕ) → told_in (said_of text) ≡ told_of text

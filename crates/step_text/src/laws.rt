@@ -1,12 +1,6 @@
 //! Laws of every line: a function's contract is a law.
 ghost use Rattle.step_text.specs.Causes.{ReasonIsItsParts};
-ghost use Rattle.step_text.specs.Said.{SaidIsTold};
 ghost use Rattle.step_text.specs.Ticks.{NoTickIsDue};
-
-/// What a line says is what it tells a collector, with its cause where it says nothing.
-pub fn said_is_told()
-    ensures { SaidIsTold }
-{}
 
 /// The word and the values of a refusal are all that the report says of it.
 #[tactic(auto, using(crate::proofs::Parts::reason_is_its_parts))]

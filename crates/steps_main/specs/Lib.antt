@@ -5,3 +5,4 @@ pub mod Beginning
 pub mod Telling
 pub mod Ending
 pub mod Laws
+pub mod Told

@@ -11,7 +11,7 @@ mod running;
 mod status;
 mod telling;
 
-pub use laws::own_lines_alone;
+pub use laws::{own_lines_alone, said_is_told};
 pub use running::tell_steps;
 pub use status::StepsStatus;
 pub use telling::LINE_MAX;

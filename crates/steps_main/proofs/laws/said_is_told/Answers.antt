@@ -7,8 +7,9 @@ use Rattle.meter_address.specs.declared.address.Address.{Address}
 use Rattle.meter_slots.specs.declared.entry.Event.{Event}
 use Rattle.meter_slots.specs.Telling.{event_of_line}
 use Rattle.receivers.specs.Told.{told_by_event, told_by_reading, told_of}
-use Rattle.step_text.specs.Said.{said_by_event, said_by_reading, said_of, told_in}
-use Rattle.step_text.proofs.laws.said_is_told.Goals as goal
+use Rattle.step_text.specs.Said.{said_by_event, said_by_reading, said_of}
+use Rattle.steps_main.specs.Told.{told_in}
+use Rattle.steps_main.proofs.laws.said_is_told.Goals as goal
 
 by_event : (event : Result (Address × Event) FrameFault) → told_in (said_by_event event) ≡ told_by_event event
 by_event (Ok (address, event)) = refl
