@@ -6,7 +6,7 @@ use command_queue::{Command, NoSuch, Queue};
 use ell_layer::Access;
 
 /// Whether a command was sent and waits for the meter's response.
-#[derive(Clone, Copy, Debug, PartialEq, Eq)]
+#[derive(Clone, Copy, PartialEq, Eq)]
 pub enum Window {
     /// No command was sent, or it was answered or the window closed.
     Idle,
@@ -15,7 +15,7 @@ pub enum Window {
 }
 
 /// What a stored message moves.
-#[derive(Clone, Copy, Debug, PartialEq, Eq)]
+#[derive(Clone, Copy)]
 pub struct Moved {
     /// The id of the command that was confirmed and removed.
     pub confirmed: Option<u32>,

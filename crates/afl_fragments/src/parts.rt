@@ -14,7 +14,7 @@ use std::array;
 use std::marker::Model;
 
 /// Whether a fragment is held.
-#[derive(Clone, Copy, Debug, PartialEq, Eq)]
+#[derive(Clone, Copy)]
 pub enum Held {
     /// It is held, in place of an earlier one with its number.
     Kept,

@@ -11,7 +11,7 @@ use crate::fields::{KI, MAC, MCL, MCR, ML, MORE, eight, four, has, len_of, one, 
 pub const AFL_CI: u8 = 0x90;
 
 /// The header of the authentication and fragmentation layer (EN 13757-7), of CI 90.
-#[derive(Clone, Copy, Debug, PartialEq, Eq)]
+#[derive(Clone, Copy)]
 pub struct Afl {
     /// MF: more fragments of the message follow.
     pub more: bool,
@@ -43,7 +43,7 @@ impl Afl {
 }
 
 /// What of a message's headers goes into its authentication.
-#[derive(Clone, Copy, Debug, PartialEq, Eq)]
+#[derive(Clone, Copy)]
 pub struct Auth {
     /// MCL, the message control.
     pub mcl: Option<u8>,
@@ -56,7 +56,7 @@ pub struct Auth {
 }
 
 /// Why bytes begin with no such header: the first of these that applies.
-#[derive(Clone, Copy, Debug, PartialEq, Eq)]
+#[derive(Clone, Copy)]
 pub enum AflFault {
     /// There are fewer than four bytes, or fewer than AFLL says. There are this many.
     Truncated(usize),

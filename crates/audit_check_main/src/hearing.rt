@@ -18,7 +18,7 @@ use std::alloc::Global;
 use std::marker::Model;
 
 /// The numbers of some lines, in their order.
-#[derive(Debug, Drop)]
+#[derive(Drop)]
 pub(crate) struct LineNumbers {
     numbers: Vec<u32>,
 }
@@ -60,7 +60,7 @@ impl LineNumbers {
 }
 
 /// What a line of an input is.
-#[derive(Clone, Copy, Debug, PartialEq, Eq)]
+#[derive(Clone, Copy)]
 pub enum Sort {
     /// One of the list with this number: that of a meter, or the strangers' behind those of all meters.
     Listed(usize),

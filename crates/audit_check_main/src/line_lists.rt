@@ -12,7 +12,7 @@ use std::alloc::Global;
 use std::marker::Model;
 
 /// Which list the latest heading opens.
-#[derive(Clone, Copy, Debug, PartialEq, Eq)]
+#[derive(Clone, Copy)]
 pub enum Open {
     /// None: no heading stands above.
     Nothing,
@@ -23,7 +23,7 @@ pub enum Open {
 }
 
 /// Why a report gives no lists.
-#[derive(Clone, Copy, Debug, PartialEq, Eq)]
+#[derive(Clone, Copy)]
 pub(crate) enum ListsFault {
     /// The first line that is out of form, from 1.
     Form(u32),
@@ -32,7 +32,7 @@ pub(crate) enum ListsFault {
 }
 
 // Why a line isn't taken.
-#[derive(Clone, Copy, Debug, PartialEq, Eq)]
+#[derive(Clone, Copy)]
 enum Stop {
     Form,
     Memory,

@@ -8,7 +8,7 @@ use std::alloc::Global;
 use std::marker::Model;
 
 /// The pairs of a list, in their order.
-#[derive(Debug, Drop)]
+#[derive(Drop)]
 pub(crate) struct Order {
     pairs: Vec<(u32, u32)>,
 }

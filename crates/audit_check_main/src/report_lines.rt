@@ -29,7 +29,7 @@ fn cut(text: &[u8]) -> (&[u8], Option<&[u8]>)
 }
 
 /// The lines of a report that are still to come: what stands between its newlines, a carriage return too.
-#[derive(Debug, Drop)]
+#[derive(Drop)]
 pub(crate) struct ReportLines<'a> {
     rest: Option<&'a [u8]>,
 }

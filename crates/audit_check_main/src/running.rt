@@ -26,7 +26,7 @@ use std::alloc::Global;
 pub const REPORT_MAX: usize = 1_073_741_824;
 
 // Why a source isn't read.
-#[derive(Clone, Copy, Debug, PartialEq, Eq)]
+#[derive(Clone, Copy)]
 enum Unread {
     Failed,
     Memory,
@@ -101,7 +101,7 @@ fn read_input<S: Source>(alloc: Global, source: &mut S, room: &mut Vec<u8>) -> R
 }
 
 // Why the inputs aren't read.
-#[derive(Clone, Copy, Debug, PartialEq, Eq)]
+#[derive(Clone, Copy)]
 enum InputFault {
     // This input, from 1, can't be read.
     Read(u32),
@@ -140,7 +140,7 @@ fn read_inputs<S: Source>(
 }
 
 /// The files that the words name.
-#[derive(Clone, Copy, Debug)]
+#[derive(Clone, Copy)]
 pub struct FilesNamed<'a> {
     /// The state that is judged, if one is.
     pub next: Option<&'a str>,

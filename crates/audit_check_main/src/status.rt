@@ -3,7 +3,7 @@ use crate::verdict::{Cause, Verdict};
 
 /// How a run ended: `Words`, `ReadState`, `ReadNext`, `ReadReport`, `LongReport` and `Read` in this order before all others, then a
 /// verdict, or `Write` in its place.
-#[derive(Clone, Copy, Debug, PartialEq, Eq)]
+#[derive(Clone, Copy)]
 pub enum AuditStatus {
     /// Status 0: the report, and the state that is judged, are faithful, and `yes` is written.
     Yes,

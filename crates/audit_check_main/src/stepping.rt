@@ -32,7 +32,7 @@ fn told_at(heard: &[Hearing<'_>], source: u32, line: u32) -> Told
 }
 
 /// Why no slot, or no session, is made.
-#[derive(Clone, Copy, Debug, PartialEq, Eq)]
+#[derive(Clone, Copy)]
 pub enum Unmade {
     /// A list names a line that isn't one of its own.
     Stray,

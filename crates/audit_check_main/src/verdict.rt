@@ -3,7 +3,7 @@ use roster_file::LineCause;
 use state_file::FileCause;
 
 /// What the audit of a report answers.
-#[derive(Clone, Copy, Debug, PartialEq, Eq)]
+#[derive(Clone, Copy)]
 pub enum Verdict {
     /// The report is the text of a session of just what the inputs tell, in the orders that it prints, and the state that is judged,
     /// if one is, is what that session leaves.
@@ -13,7 +13,7 @@ pub enum Verdict {
 }
 
 /// Why a report isn't what it should be: the first of these that applies.
-#[derive(Clone, Copy, Debug, PartialEq, Eq)]
+#[derive(Clone, Copy)]
 pub enum Cause {
     /// The text that is to be a state hasn't the head of one and is no roster either, or has too many bytes: the roster's first faulty
     /// line, and what is wrong with it.

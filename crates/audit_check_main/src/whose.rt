@@ -2,7 +2,7 @@
 use meter_address::Address;
 
 /// Whose a line is.
-#[derive(Clone, Copy, Debug, PartialEq, Eq)]
+#[derive(Clone, Copy)]
 pub enum Whose {
     /// It tells something for a meter, one of the state or a stranger.
     Meter(Address),

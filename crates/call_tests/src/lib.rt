@@ -1,10 +1,8 @@
-//! What no built program shows, tried by public calls: authentication codes under any key, a header's ends, values with keys as they are
-//! shown, sources and sinks of which each call fails, books that act at the same time, and the lines of made sessions. All else is tried
-//! over the built programs (tests/cases, tests/checks).
+//! What no built program shows, tried by public calls: authentication codes under any key, a header's ends, sources and sinks of which
+//! each call fails, books that act at the same time, and the lines of made sessions. All else is tried over the built programs
+//! (tests/cases, tests/checks).
 #![tactic(auto)]
 
-#[cfg(test)]
-mod afl_layer_calls;
 #[cfg(test)]
 mod asserts;
 #[cfg(test)]

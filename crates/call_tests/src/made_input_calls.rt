@@ -29,7 +29,7 @@ fn sum_of(bytes: &[u8]) -> u64 {
 }
 
 fn sum_of_text(rt: &impl Abort, alloc: Global, text: &MadeText) -> u64 {
-    sum_of(&text.joined(alloc).expect(rt, NO_MEMORY))
+    sum_of(&text.joined(alloc).ok().expect(rt, NO_MEMORY))
 }
 
 // Asserts the sums of a session's roster and of what each of its receivers hears.
@@ -46,8 +46,8 @@ fn assert_made(rt: &impl Abort, alloc: Global, made: Made, wanted: &str) {
 
 #[test]
 fn a_small_session_is_as_another_program_made_it(rt: HostRuntime) {
-    let made = make(&rt, rt.alloc(), 2, 5, 7).expect(&rt, NO_MEMORY);
-    let first = made.first.joined(rt.alloc()).expect(&rt, NO_MEMORY);
+    let made = make(&rt, rt.alloc(), 2, 5, 7).ok().expect(&rt, NO_MEMORY);
+    let first = made.first.joined(rt.alloc()).ok().expect(&rt, NO_MEMORY);
     assert_bytes(&rt, &made.roster, ROSTER.as_bytes(), "roster");
     assert_bytes(&rt, &first, LINES.as_bytes(), "first");
 }
@@ -58,31 +58,31 @@ fn sessions_have_the_sums_of_those_that_another_program_made(rt: HostRuntime) {
     assert_made(
         &rt,
         rt.alloc(),
-        make(&rt, rt.alloc(), 2, 5, 7).expect(&rt, NO_MEMORY),
+        make(&rt, rt.alloc(), 2, 5, 7).ok().expect(&rt, NO_MEMORY),
         "[10481755530024231907, 631304658931542367, 13641705019911882847, 16571248415811999583, 17759233624005401183]",
     );
     assert_made(
         &rt,
         rt.alloc(),
-        make(&rt, rt.alloc(), 1, 512, 3).expect(&rt, NO_MEMORY),
+        make(&rt, rt.alloc(), 1, 512, 3).ok().expect(&rt, NO_MEMORY),
         "[622036936452317854, 921052597050652036, 13745043747759447428, 10677373564697179524, 9244378300373632900]",
     );
     assert_made(
         &rt,
         rt.alloc(),
-        make(&rt, rt.alloc(), 12, 12, u64::MAX).expect(&rt, NO_MEMORY),
+        make(&rt, rt.alloc(), 12, 12, u64::MAX).ok().expect(&rt, NO_MEMORY),
         "[5837248731763766459, 308444584303063913, 7796920245363957097, 17535504558341235817, 10797439522915604841]",
     );
     assert_made(
         &rt,
         rt.alloc(),
-        make(&rt, rt.alloc(), 1_024, 1_024, 5).expect(&rt, NO_MEMORY),
+        make(&rt, rt.alloc(), 1_024, 1_024, 5).ok().expect(&rt, NO_MEMORY),
         "[16019460544907220942, 18310726344534927813, 390034841064595909, 10558574234139982021, 2216451740313554373]",
     );
     assert_made(
         &rt,
         rt.alloc(),
-        make(&rt, rt.alloc(), 50, 5_000, 7).expect(&rt, NO_MEMORY),
+        make(&rt, rt.alloc(), 50, 5_000, 7).ok().expect(&rt, NO_MEMORY),
         "[323375960773539415, 11196092063435235550, 10614643397989392862, 7346833078433433310, 16530763729489478366]",
     );
 }

@@ -32,7 +32,7 @@ fn a_world_has_a_slot_for_each_meter(rt: HostRuntime) {
     let alloc = rt.alloc();
     let starts = alone(&rt, alloc, MeterStart::new(gas()));
     let world = World::new(alloc, Address(0x9315_0100_0000_0131), starts);
-    let world = world.expect(&rt, NO_MEMORY);
+    let world = world.ok().expect(&rt, NO_MEMORY);
     let slots = (world.slot(0).is_some(), world.slot(1).is_none());
     assert_shown(&rt, alloc, &slots, "(true, true)", "slots");
 }

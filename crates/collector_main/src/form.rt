@@ -1,7 +1,7 @@
 //! The texts that a session may begin from.
 
 /// Which text a session begins from, and which one it leaves for the next session.
-#[derive(Clone, Copy, Debug, PartialEq, Eq)]
+#[derive(Clone, Copy)]
 pub enum Form {
     /// A roster, whose meters are just commissioned.
     Roster,

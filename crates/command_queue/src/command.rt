@@ -27,7 +27,7 @@ impl Command {
 }
 
 /// Why a command isn't queued.
-#[derive(Clone, Copy, Debug, PartialEq, Eq)]
+#[derive(Clone, Copy)]
 pub enum QueueFault {
     /// Eight commands wait.
     Full,
@@ -36,5 +36,5 @@ pub enum QueueFault {
 }
 
 /// No command that waits has this id.
-#[derive(Clone, Copy, Debug, PartialEq, Eq)]
+#[derive(Clone, Copy)]
 pub struct NoSuch(pub u32);

@@ -1,7 +1,7 @@
 //! Why no record begins where one should.
 
 /// The first fault on the way through a record. A place is that of the record's DIF in the payload.
-#[derive(Clone, Copy, Debug, PartialEq, Eq)]
+#[derive(Clone, Copy)]
 pub enum RecordFault {
     /// The payload ends inside the record that begins at this place.
     Truncated(usize),

@@ -79,7 +79,7 @@ fn dif_of(start: usize, bytes: &[u8]) -> Result<(u8, &[u8]), RecordFault>
 }
 
 /// The data information block: the DIF and its DIFEs.
-#[derive(Clone, Copy, Debug)]
+#[derive(Clone, Copy)]
 pub struct DataInformation<'a> {
     pub dif: u8,
     pub difes: &'a [u8],
@@ -95,7 +95,7 @@ fn dib_of(start: usize, bytes: &[u8]) -> Result<(DataInformation<'_>, &[u8]), Re
 }
 
 /// The value information block: the VIF, the plain text unit with the length before it, and the VIFEs.
-#[derive(Clone, Copy, Debug)]
+#[derive(Clone, Copy)]
 pub struct ValueInformation<'a> {
     pub vif: u8,
     pub text: &'a [u8],
@@ -180,7 +180,7 @@ fn lvar_of(start: usize, dif: u8, bytes: &[u8]) -> Result<(Option<u8>, &[u8]), R
 }
 
 /// The data as they are sent, with the LVAR before them where the data field is D.
-#[derive(Clone, Copy, Debug)]
+#[derive(Clone, Copy)]
 pub struct DataContents<'a> {
     pub lvar: Option<u8>,
     pub sent: &'a [u8],
@@ -200,7 +200,7 @@ fn contents_of(
 }
 
 /// A record, part by part.
-#[derive(Clone, Copy, Debug)]
+#[derive(Clone, Copy)]
 pub struct RecordParts<'a> {
     pub dib: DataInformation<'a>,
     pub vib: ValueInformation<'a>,

@@ -3,7 +3,7 @@
 /// A record or manufacturer data in a payload: their places there, and the numbers of the DIF and its
 /// extensions. Of manufacturer data only `start`, `end`, `maker`, `dif` and the place of the data
 /// are given; the other numbers are 0.
-#[derive(Clone, Copy, Debug, PartialEq, Eq)]
+#[derive(Clone, Copy)]
 pub struct RecordSpan {
     /// The place of the DIF.
     pub start: usize,

@@ -3,7 +3,7 @@ ghost use Rattle.std.specs.Prelude.{◌≡◌};
 ghost use Rattle.ell_layer.specs.Access.{access_of, access_in};
 
 /// When a meter listens after its telegram (EN 13757-4).
-#[derive(Clone, Copy, Debug, PartialEq, Eq)]
+#[derive(Clone, Copy)]
 pub enum Access {
     /// It doesn't listen.
     None,

@@ -12,7 +12,7 @@ const SHORT_CI: u8 = 0x8C;
 const LONG_CI: u8 = 0x8E;
 
 /// The header of the extended link layer (EN 13757-4), of CI 8C, or of CI 8E, whose second address isn't kept.
-#[derive(Clone, Copy, Debug, PartialEq, Eq)]
+#[derive(Clone, Copy)]
 pub struct Ell {
     /// When the meter listens, from the communication control.
     pub access: Access,
@@ -23,7 +23,7 @@ pub struct Ell {
 }
 
 /// Why bytes begin with no header of the extended link layer: the first of these that applies.
-#[derive(Clone, Copy, Debug, PartialEq, Eq)]
+#[derive(Clone, Copy)]
 pub enum EllFault {
     /// There is no byte, or there are fewer than the header has. There are this many.
     Truncated(usize),

@@ -1,7 +1,7 @@
 //! Why bytes are no frame.
 
 /// Why bytes are no frame: the first of these that applies.
-#[derive(Clone, Copy, Debug, PartialEq, Eq)]
+#[derive(Clone, Copy)]
 pub enum FrameFault {
     /// There is no byte.
     Empty,

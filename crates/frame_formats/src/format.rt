@@ -8,7 +8,7 @@ use crate::format_b::read_telegram_b;
 use crate::{FrameFault, Telegram};
 
 /// The format of a frame (EN 13757-4).
-#[derive(Clone, Copy, Debug, PartialEq, Eq)]
+#[derive(Clone, Copy)]
 pub enum Format {
     /// Format A: a block of 10 bytes, then blocks of 16, each with its CRC.
     A,

@@ -1,10 +1,7 @@
 //! Telegrams.
-ghost use Rattle.std.specs.Prelude.{◌≡◌, ◌<◌, ◌≤◌, ◌+◌, ◌↔◌, length, take, drop, slice_index, replicate, nat_eq, ◌∷◌, IsSome, IfSome};
-ghost use Rattle.std.specs.Cmp.{partial_equiv_from_equiv};
-ghost use Rattle.std.specs.Cmp.Lexicographic.{nat_list_eq_equiv, pointwise};
+ghost use Rattle.std.specs.Prelude.{◌≡◌, ◌<◌, ◌≤◌, ◌+◌, ◌↔◌, length, take, drop, slice_index, replicate, ◌∷◌, IsSome, IfSome};
 ghost use Rattle.frame_formats.specs.Crc.{IsBytes};
 
-use std::fmt;
 use std::marker::Model;
 
 // The first bytes, which are bytes.
@@ -99,26 +96,5 @@ impl Telegram {
             bytes: self.bytes,
             len: self.len,
         }
-    }
-}
-
-// Telegrams are equal where their bytes are.
-impl PartialEq for Telegram {
-    ghost eq = { pointwise nat_eq };
-
-    ghost laws = { partial_equiv_from_equiv nat_list_eq_equiv };
-
-    fn eq(&self, other: &Telegram) -> bool {
-        self.bytes() == other.bytes()
-    }
-}
-
-impl Eq for Telegram {
-    ghost laws = { nat_list_eq_equiv };
-}
-
-impl fmt::Debug for Telegram {
-    fn fmt<W: fmt::Write>(&self, f: &mut fmt::Formatter<W>) -> fmt::Result {
-        self.bytes().fmt(f)
     }
 }

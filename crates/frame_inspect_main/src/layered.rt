@@ -249,7 +249,7 @@ impl Printed for Numbered<'_> {
 }
 
 /// The look that shows every layer of a frame in a line of text.
-#[derive(Clone, Copy, Debug, PartialEq, Eq)]
+#[derive(Clone, Copy)]
 pub struct Layered;
 
 impl Look for Layered {

@@ -1,7 +1,7 @@
 //! How a run ended.
 
 /// How a run ended: the first of these that applies, in this order, but for `Done` and `Memory`.
-#[derive(Clone, Copy, Debug, PartialEq, Eq)]
+#[derive(Clone, Copy)]
 pub enum InspectStatus {
     /// Status 0: the file was read to its end, and the text is written whole.
     Done,

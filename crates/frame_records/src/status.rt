@@ -6,7 +6,7 @@ use line_teller::LinesEnd;
 use roster_file::{LineCause, LoadFault};
 
 /// How a run ended that shows frames with their records.
-#[derive(Clone, Copy, Debug, PartialEq, Eq)]
+#[derive(Clone, Copy)]
 pub enum RecordsStatus {
     /// Status 4: the roster can't be read.
     ReadRoster,

@@ -9,7 +9,7 @@ use record_values::{Quantity, UnitName};
 
 /// The codes from `first` to `last` count in the same unit, the first with the exponent `least`, each
 /// other one with one more.
-#[derive(Clone, Copy, Debug)]
+#[derive(Clone, Copy)]
 pub struct FurtherRow {
     pub first: u8,
     pub last: u8,

@@ -6,7 +6,7 @@ ghost use Rattle.full_records.specs.Moments.{day_in, field, long_moment_in, mome
 use record_values::{bits, year_of};
 
 /// A date. A part that is `None` stands for every one, as every year.
-#[derive(Clone, Copy, Debug, PartialEq, Eq)]
+#[derive(Clone, Copy)]
 pub struct Day {
     /// From 1900 on.
     pub year: Option<u16>,
@@ -17,7 +17,7 @@ pub struct Day {
 }
 
 /// A time of day. A part that is `None` stands for every one, as every hour.
-#[derive(Clone, Copy, Debug, PartialEq, Eq)]
+#[derive(Clone, Copy)]
 pub struct TimeOfDay {
     /// 0 to 23.
     pub hour: Option<u8>,
@@ -28,7 +28,7 @@ pub struct TimeOfDay {
 }
 
 /// A date and a time to the minute. A part of the time that is `None` stands for every one.
-#[derive(Clone, Copy, Debug, PartialEq, Eq)]
+#[derive(Clone, Copy)]
 pub struct Moment {
     /// The date.
     pub day: Day,
@@ -43,7 +43,7 @@ pub struct Moment {
 }
 
 /// A date and a time to the second, with what else type I has.
-#[derive(Clone, Copy, Debug, PartialEq, Eq)]
+#[derive(Clone, Copy)]
 pub struct LongMoment {
     /// The date.
     pub day: Day,

@@ -10,7 +10,7 @@ use record_values::UnitName;
 use std::default::MadeWith;
 
 /// What a further VIFE says.
-#[derive(Clone, Copy, Debug, PartialEq, Eq)]
+#[derive(Clone, Copy)]
 pub enum QualifierName {
     /// The request had too many DIFEs.
     TooManyDifes,
@@ -187,7 +187,7 @@ pub enum QualifierName {
 }
 
 /// What a further VIFE does to how the data are read.
-#[derive(Clone, Copy, Debug, PartialEq, Eq)]
+#[derive(Clone, Copy)]
 pub enum Effect {
     /// Nothing: it only says more of the quantity.
     Stays,
@@ -208,7 +208,7 @@ pub enum Effect {
 }
 
 /// A further VIFE: its seven bits, what it says, and what it does.
-#[derive(Clone, Copy, Debug, PartialEq, Eq)]
+#[derive(Clone, Copy)]
 pub struct Qualifier {
     /// The seven lower bits, as sent.
     pub code: u8,
@@ -219,7 +219,7 @@ pub struct Qualifier {
 }
 
 /// Of which table a further VIFE is.
-#[derive(Clone, Copy, Debug, PartialEq, Eq)]
+#[derive(Clone, Copy)]
 pub enum VifePlace {
     /// Of the combinable VIFEs.
     Combinable,
@@ -233,7 +233,7 @@ pub enum VifePlace {
 pub const MOST_QUALIFIERS: usize = 10;
 
 // What stands in a place that no qualifier has.
-#[derive(Clone, Copy, Debug)]
+#[derive(Clone, Copy)]
 pub struct Blank;
 
 impl MadeWith<Blank> for Qualifier {

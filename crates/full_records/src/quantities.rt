@@ -3,7 +3,7 @@
 use record_values::{Quantity, UnitName};
 
 /// What a record measures or states.
-#[derive(Clone, Copy, Debug, PartialEq, Eq)]
+#[derive(Clone, Copy)]
 pub enum FullQuantity {
     /// A quantity that the profile names too.
     Profile(Quantity),
@@ -138,7 +138,7 @@ pub enum FullQuantity {
 }
 
 /// The unit in which a record's value counts.
-#[derive(Clone, Copy, Debug, PartialEq, Eq)]
+#[derive(Clone, Copy)]
 pub enum FullUnitName {
     /// A unit that the profile names too, or none.
     Profile(UnitName),
@@ -183,7 +183,7 @@ pub enum FullUnitName {
 }
 
 /// What a code stands for: what is measured, in which unit, and the power of ten by which the value is multiplied.
-#[derive(Clone, Copy, Debug, PartialEq, Eq)]
+#[derive(Clone, Copy)]
 pub struct Measure {
     /// What is measured or stated.
     pub quantity: FullQuantity,

@@ -8,7 +8,7 @@ use crate::quantities::{FullQuantity, FullUnitName, Measure};
 use record_values::{Quantity, UnitName};
 
 /// How the data of a quantity are read.
-#[derive(Clone, Copy, Debug, PartialEq, Eq)]
+#[derive(Clone, Copy)]
 pub enum Kind {
     /// As a number.
     Number,
@@ -27,7 +27,7 @@ pub enum Kind {
 }
 
 /// How the data of a record are read, and in which unit they count.
-#[derive(Clone, Copy, Debug, PartialEq, Eq)]
+#[derive(Clone, Copy)]
 pub struct Reading {
     /// As what.
     pub kind: Kind,
@@ -38,7 +38,7 @@ pub struct Reading {
 }
 
 /// The types of data (EN 13757-3, annex A).
-#[derive(Clone, Copy, Debug, PartialEq, Eq)]
+#[derive(Clone, Copy)]
 pub enum DataType {
     /// Data of no type that is read here, or no data.
     Untyped,

@@ -15,7 +15,7 @@ use crate::values::{FullValue, is_unset, unread, value_as};
 use dif_vif::RecordSpan;
 
 /// What a data record says.
-#[derive(Debug, Drop)]
+#[derive(Drop)]
 pub struct FullRecord {
     /// What is measured or stated, as the VIF says; the qualifiers say more of it.
     pub quantity: FullQuantity,

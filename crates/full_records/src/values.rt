@@ -13,7 +13,7 @@ use crate::readings::DataType;
 use record_values::{Value, number_value, unsigned_of};
 
 /// What a record says. A number counts in the record's unit.
-#[derive(Clone, Copy, Debug, PartialEq, Eq)]
+#[derive(Clone, Copy)]
 pub enum FullValue {
     /// There are no data.
     Nothing,

@@ -7,7 +7,7 @@ ghost use Rattle.full_text.specs.Values.{backwards, byte_text, character_text, i
 use paper::{Paper, put_hex, put_labelled_bytes};
 
 /// How each byte is put.
-#[derive(Clone, Copy, Debug)]
+#[derive(Clone, Copy)]
 pub enum ByteForm {
     /// As two hexadecimal digits.
     Digits,

@@ -4,7 +4,7 @@ ghost use Rattle.std.specs.Prelude.{◌≡◌, ◌/◌, ◌^◌, ◌<◌, ◌≤
 ghost use Rattle.full_text.specs.Reals.{exponent_bits, fraction_bits, halvings, is_negative, is_told, places, power, real_decimal, signed, significand, size};
 
 /// A decimal number: `whole` times ten to the power of `exponent`.
-#[derive(Clone, Copy, Debug, PartialEq, Eq)]
+#[derive(Clone, Copy)]
 pub struct Decimal {
     /// The digits, with their sign.
     pub whole: i128,

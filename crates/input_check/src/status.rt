@@ -3,7 +3,7 @@ use input_check_main::Stop;
 use std::fmt;
 
 /// How a check ended.
-#[derive(Clone, Copy, Debug, PartialEq, Eq)]
+#[derive(Clone, Copy)]
 pub enum CheckStatus {
     /// Status 0: nothing is faulty.
     Done,

@@ -14,7 +14,7 @@ use std::alloc::Global;
 pub const MOST_SHOWN: usize = 100;
 
 /// What is wrong with a line.
-#[derive(Clone, Copy, Debug, PartialEq, Eq)]
+#[derive(Clone, Copy)]
 pub enum LineFault {
     /// It says nothing, and why.
     Bad(BadLine),
@@ -23,7 +23,7 @@ pub enum LineFault {
 }
 
 /// A faulty line.
-#[derive(Clone, Copy, Debug, PartialEq, Eq)]
+#[derive(Clone, Copy)]
 pub struct FaultyLine {
     /// Its number, from 1.
     pub line: u32,
@@ -53,7 +53,7 @@ pub(crate) fn look_at_line(line: &Line) -> Result<Option<Address>, LineFault>
 }
 
 /// What the lines of a receiver come to.
-#[derive(Debug, Drop)]
+#[derive(Drop)]
 pub struct FaultyLines {
     /// The first `MOST_SHOWN` faulty lines, in order.
     pub first: Vec<FaultyLine>,

@@ -15,7 +15,7 @@ use outer_io::Sink;
 use paper::{Paper, Printed, put_hex, put_text, write};
 
 /// What is to be said of a meter.
-#[derive(Clone, Copy, Debug, PartialEq, Eq)]
+#[derive(Clone, Copy)]
 pub enum Hint {
     /// Its key is sixteen equal bytes.
     EqualBytes,
@@ -30,7 +30,7 @@ pub enum Hint {
 }
 
 /// A meter and what is to be said of it.
-#[derive(Clone, Copy, Debug, PartialEq, Eq)]
+#[derive(Clone, Copy)]
 pub struct Note {
     /// The meter.
     pub address: Address,

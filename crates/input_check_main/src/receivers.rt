@@ -22,7 +22,7 @@ use paper::write;
 use std::alloc::Global;
 
 // How the lines end.
-#[derive(Clone, Copy, Debug, PartialEq, Eq)]
+#[derive(Clone, Copy)]
 enum End {
     // All were looked at.
     Done,

@@ -21,7 +21,7 @@ use state_file::{STATE_MOST, StateFault, is_state, read_state, state_faults};
 use std::alloc::Global;
 
 /// Why nothing more is checked.
-#[derive(Clone, Copy, Debug, PartialEq, Eq)]
+#[derive(Clone, Copy)]
 pub enum Stop {
     /// The file can't be read.
     Read,
@@ -34,7 +34,7 @@ pub enum Stop {
 }
 
 /// What a state comes to, which may be a roster.
-#[derive(Debug, Drop)]
+#[derive(Drop)]
 pub struct CheckedState {
     /// Whether it has a byte order mark in front, or a faulty line.
     pub faulty: bool,

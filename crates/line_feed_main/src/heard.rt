@@ -15,7 +15,7 @@ pub struct Reception {
 }
 
 /// Why nothing was heard.
-#[derive(Clone, Copy, Debug, PartialEq, Eq)]
+#[derive(Clone, Copy)]
 pub enum Unheard {
     /// The line isn't taken.
     Refused(NotTaken),

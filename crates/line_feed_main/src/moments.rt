@@ -16,7 +16,7 @@ use plain_text::{first_place, read_number};
 const SECONDS_MAX: u64 = 253_402_300_799;
 
 /// A moment, as a line names it.
-#[derive(Clone, Copy, Debug, PartialEq, Eq)]
+#[derive(Clone, Copy)]
 pub struct Moment {
     /// The seconds since the beginning of 1970 of UTC.
     pub seconds: u64,

@@ -3,7 +3,7 @@ ghost use Rattle.std.specs.Prelude.{◌≡◌};
 ghost use Rattle.plain_text.specs.Parts.{is_word};
 
 /// The format of a radio receiver's lines.
-#[derive(Clone, Copy, Debug, PartialEq, Eq)]
+#[derive(Clone, Copy)]
 pub enum Printing {
     /// Those of a stick with culfw: a frame with its CRCs behind the letter `b`.
     Cul,

@@ -2,7 +2,7 @@
 use frame_formats::FrameFault;
 
 /// Why a receiver's line isn't taken as a telegram: the first of these that applies.
-#[derive(Clone, Copy, Debug, PartialEq, Eq)]
+#[derive(Clone, Copy)]
 pub enum NotTaken {
     /// It has more than 4,096 bytes.
     TooLong,

@@ -2,7 +2,7 @@
 use line_teller::LinesEnd;
 
 /// How a feed ended.
-#[derive(Clone, Copy, Debug, PartialEq, Eq)]
+#[derive(Clone, Copy)]
 pub enum FeedStatus {
     /// Status 0: every line was a telegram, and was taken.
     Done,

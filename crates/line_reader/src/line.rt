@@ -26,7 +26,7 @@ pub enum Line {
 }
 
 /// Why a line says nothing: the first of these that applies.
-#[derive(Clone, Copy, Debug, PartialEq, Eq)]
+#[derive(Clone, Copy)]
 pub enum BadLine {
     /// It has more than 1,024 bytes.
     TooLong,

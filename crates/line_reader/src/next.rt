@@ -2,7 +2,7 @@
 use crate::line::{BadLine, Line};
 
 /// What comes next of a source's lines as bytes.
-#[derive(Clone, Copy, Debug, PartialEq, Eq)]
+#[derive(Clone, Copy)]
 pub enum NextText {
     /// A line, whose bytes the reader lends.
     Line,
@@ -28,5 +28,5 @@ pub enum Next {
 }
 
 /// A read of the source failed, and its count of faults says so.
-#[derive(Clone, Copy, Debug, PartialEq, Eq)]
+#[derive(Clone, Copy)]
 pub struct ReadFault;

@@ -11,7 +11,7 @@ use outer_io::Failed;
 pub const HALF_MAX: usize = 1_024;
 
 /// Why a file can't be appended to.
-#[derive(Clone, Copy, Debug, PartialEq, Eq)]
+#[derive(Clone, Copy)]
 pub enum Unfit {
     /// Its end can't be read, or not be cut off.
     Failed,

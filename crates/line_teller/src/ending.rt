@@ -1,7 +1,7 @@
 //! How lines end.
 
 /// How lines that are told end.
-#[derive(Clone, Copy, Debug, PartialEq, Eq)]
+#[derive(Clone, Copy)]
 pub enum LinesEnd {
     /// The source is at its end, and all its lines were told.
     Done,

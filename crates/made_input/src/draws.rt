@@ -3,7 +3,7 @@ ghost use Rattle.std.specs.Prelude.{◌≡◌, ℕ, ◌+◌, ◌<◌, ◌^◌};
 ghost use Rattle.made_input.specs.Draws.{next_state, draw_of, state_after, key_behind};
 
 /// A linear congruential generator, which begins as a number.
-#[derive(Debug, Drop)]
+#[derive(Drop)]
 pub(crate) struct Draws {
     pub(crate) state: u64,
 }

@@ -17,7 +17,7 @@ use std::thread::Threads;
 pub const OWN: Address = Address(0x9315_0100_0000_0131);
 
 /// A made session, as texts.
-#[derive(Debug, Drop)]
+#[derive(Drop)]
 pub struct Made {
     /// The roster.
     pub roster: Vec<u8>,

@@ -34,7 +34,7 @@ fn next_place(pieces: &[Vec<u8>], piece: usize, at: usize) -> (usize, usize)
 }
 
 /// The text that a receiver hears. A read takes all that is left of a piece, as far as the reader has room.
-#[derive(Debug, Drop)]
+#[derive(Drop)]
 pub struct HeardText {
     pieces: Vec<Vec<u8>>,
     piece: usize,
@@ -92,7 +92,7 @@ impl Source for HeardText {
 }
 
 /// Takes downlinks, and keeps none.
-#[derive(Clone, Copy, Debug)]
+#[derive(Clone, Copy)]
 pub struct NoDownlinks;
 
 impl Sink for NoDownlinks {

@@ -23,7 +23,7 @@ fn of_meters(meters: u32, telegrams: u32) -> u64
 }
 
 /// The summary of the session of so many meters and telegrams, as a text.
-#[derive(Clone, Copy, Debug, PartialEq, Eq)]
+#[derive(Clone, Copy)]
 pub struct Summary {
     /// How many meters.
     pub meters: u32,

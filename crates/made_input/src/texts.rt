@@ -18,7 +18,7 @@ fn joined(alloc: Global, pieces: &[Vec<u8>]) -> Result<Vec<u8>, Memory>
 }
 
 /// A text in pieces, one behind the other: each stays where the thread that made it wrote it.
-#[derive(Debug, Drop)]
+#[derive(Drop)]
 pub struct MadeText {
     pieces: Vec<Vec<u8>>,
 }

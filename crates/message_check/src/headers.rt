@@ -9,7 +9,7 @@ use meter_address::Address;
 use tpl_headers::Tpl;
 
 /// The layers of a telegram above the link (EN 13757-4, EN 13757-7).
-#[derive(Clone, Copy, Debug, PartialEq, Eq)]
+#[derive(Clone, Copy)]
 pub struct Layers {
     /// The header of the extended link layer, where there is one.
     pub ell: Option<Ell>,

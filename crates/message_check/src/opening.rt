@@ -14,7 +14,7 @@ use meter_address::Address;
 use tpl_headers::{Tpl, read_tpl};
 
 /// A message that was checked and decrypted.
-#[derive(Clone, Copy, Debug, PartialEq, Eq)]
+#[derive(Clone, Copy)]
 pub struct Opened {
     /// The number that counts the meter's messages: the message counter in mode 7, the access number in mode 5.
     pub counter: u32,

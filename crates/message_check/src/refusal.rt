@@ -5,7 +5,7 @@ use meter_address::Address;
 use tpl_headers::TplFault;
 
 /// The first layer of a telegram that can't be read.
-#[derive(Clone, Copy, Debug, PartialEq, Eq)]
+#[derive(Clone, Copy)]
 pub enum LayerFault {
     /// The extended link layer.
     Ell(EllFault),
@@ -16,7 +16,7 @@ pub enum LayerFault {
 }
 
 /// Why a slot refuses what comes to it. Of those that apply to a telegram, the first in this order is the answer.
-#[derive(Clone, Copy, Debug, PartialEq, Eq)]
+#[derive(Clone, Copy)]
 pub enum Reason {
     /// The C field, this one, isn't that of an uplink.
     NotUplink(u8),

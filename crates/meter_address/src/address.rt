@@ -9,11 +9,11 @@ use hex::FromHexError;
 /// The address of a meter as the link layer has it (EN 13757-4): eight bytes, the first one highest. They are the
 /// manufacturer M (two bytes as sent, low byte first), the identification (four bytes as sent), the version and the
 /// device type.
-#[derive(Clone, Copy, Debug, PartialEq, Eq, Hash, PartialOrd, Ord)]
+#[derive(Clone, Copy, PartialEq, Eq, Hash)]
 pub struct Address(pub u64);
 
 /// Why a text is no address.
-#[derive(Clone, Copy, Debug, PartialEq, Eq)]
+#[derive(Clone, Copy)]
 pub enum AddressFault {
     /// The text hasn't sixteen bytes, but this many.
     Length(usize),

@@ -3,11 +3,10 @@ ghost use Rattle.std.specs.Prelude.{◌≡◌};
 ghost use Rattle.meter_address.specs.Commission.{key_of, most_last};
 
 use crate::address::Address;
-use std::fmt;
 use std::marker::Model;
 
 /// The security mode of a meter's messages (OMS Volume 2).
-#[derive(Clone, Copy, Debug, PartialEq, Eq)]
+#[derive(Clone, Copy)]
 pub enum Mode {
     /// Mode 5: AES-128-CBC under the meter's key.
     Five,
@@ -38,9 +37,9 @@ pub fn read_key(text: &[u8]) -> Option<[u8; 16]>
     }
 }
 
-/// What is known of a meter when it is commissioned, or when it is written to the next roster. Its keys are never printed:
-/// `Debug` leaves them out.
-#[derive(Clone, Copy, PartialEq, Eq)]
+/// What is known of a meter when it is commissioned, or when it is written to the next roster. It can't be shown, for a
+/// key is no text of a log.
+#[derive(Clone, Copy)]
 pub struct Commission {
     /// The meter.
     pub address: Address,
@@ -86,15 +85,3 @@ impl Model for Commission {
     } };
 }
 
-// By hand, for a key is no text of a log.
-impl fmt::Debug for Commission {
-    fn fmt<W: fmt::Write>(&self, f: &mut fmt::Formatter<W>) -> fmt::Result {
-        f.debug_struct("Commission")
-            .field("address", &self.address)
-            .field("mode", &self.mode)
-            .field("last", &self.last)
-            .field("down", &self.down)
-            .field("ids", &self.ids)
-            .finish_non_exhaustive()
-    }
-}

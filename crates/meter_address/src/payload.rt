@@ -1,9 +1,6 @@
 //! The payload of a command.
-ghost use Rattle.std.specs.Prelude.{◌≡◌, ◌≤◌, ◌↔◌, length, nat_eq, IsSome, IfSome};
-ghost use Rattle.std.specs.Cmp.{partial_equiv_from_equiv};
-ghost use Rattle.std.specs.Cmp.Lexicographic.{nat_list_eq_equiv, pointwise};
+ghost use Rattle.std.specs.Prelude.{◌≡◌, ◌≤◌, ◌↔◌, length, IsSome, IfSome};
 
-use std::fmt;
 use std::marker::Model;
 
 /// The most bytes that a command's payload has.
@@ -61,26 +58,5 @@ impl Payload {
             bytes: self.bytes,
             len: self.len,
         }
-    }
-}
-
-// Payloads are equal where their bytes are.
-impl PartialEq for Payload {
-    ghost eq = { pointwise nat_eq };
-
-    ghost laws = { partial_equiv_from_equiv nat_list_eq_equiv };
-
-    fn eq(&self, other: &Payload) -> bool {
-        self.bytes() == other.bytes()
-    }
-}
-
-impl Eq for Payload {
-    ghost laws = { nat_list_eq_equiv };
-}
-
-impl fmt::Debug for Payload {
-    fn fmt<W: fmt::Write>(&self, f: &mut fmt::Formatter<W>) -> fmt::Result {
-        self.bytes().fmt(f)
     }
 }

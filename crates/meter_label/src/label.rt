@@ -5,7 +5,7 @@ ghost use Rattle.meter_label.specs.Label.{is_capital, number_of};
 use meter_address::Address;
 
 /// What stands on a meter's label.
-#[derive(Clone, Copy, Debug, PartialEq, Eq)]
+#[derive(Clone, Copy)]
 pub struct Label {
     /// The letters of the maker (EN 13757-3, the manufacturer's identification).
     pub letters: [u8; 3],

@@ -6,7 +6,7 @@ use crate::label::Label;
 use hex::FromHex;
 
 /// Why four words are no label: the first one that is none.
-#[derive(Clone, Copy, Debug, PartialEq, Eq)]
+#[derive(Clone, Copy)]
 pub enum LabelFault {
     /// The first word isn't three capital letters.
     Letters,

@@ -17,7 +17,7 @@ use outer_io::Source;
 use paper::{Paper, Printed};
 
 /// How a source of deliveries ended.
-#[derive(Clone, Copy, Debug, PartialEq, Eq)]
+#[derive(Clone, Copy)]
 pub enum DeliveriesEnd {
     /// At its end.
     End,

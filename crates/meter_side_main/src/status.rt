@@ -3,7 +3,7 @@ use roster_file::LineCause;
 use state_file::FileCause;
 
 /// How a run of the meter's side ended: the first of these that applies, in this order, but for `Done` and `Memory`.
-#[derive(Clone, Copy, Debug, PartialEq, Eq)]
+#[derive(Clone, Copy)]
 pub enum SideStatus {
     /// Status 0: the deliveries were heard to their end, and the output has its whole text.
     Done,

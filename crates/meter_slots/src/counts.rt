@@ -1,7 +1,7 @@
 //! What a receiver's run comes to.
 
 /// How many lines a receiver gave, and how many of each class. Each line is in exactly one class.
-#[derive(Clone, Copy, Debug, PartialEq, Eq)]
+#[derive(Clone, Copy)]
 pub struct Counts {
     /// All lines.
     pub lines: u32,
@@ -16,7 +16,7 @@ pub struct Counts {
 }
 
 /// How a receiver's run ended.
-#[derive(Clone, Copy, Debug, PartialEq, Eq)]
+#[derive(Clone, Copy)]
 pub enum Ended {
     /// At the end of its source.
     End,

@@ -9,7 +9,7 @@ use std::cmp::Ordering;
 use unit_text::{name_word, quantity_word};
 
 /// What an amount is of: two amounts count together where all of these are the same.
-#[derive(Clone, Copy, Debug)]
+#[derive(Clone, Copy)]
 pub struct UsageKey {
     /// The storage number.
     pub storage: u64,

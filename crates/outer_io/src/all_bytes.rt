@@ -7,7 +7,7 @@ use crate::Source;
 use std::alloc::{AllocError, Global};
 
 /// Why the bytes of a source were not read to their end.
-#[derive(Clone, Copy, Debug, PartialEq, Eq)]
+#[derive(Clone, Copy)]
 pub enum ReadError {
     /// Memory ran out.
     Memory,

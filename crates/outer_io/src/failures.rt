@@ -2,11 +2,11 @@
 use std::alloc::{AllocError, AllocFailed};
 
 /// A read or a write failed, and the count of faults of its source or sink says so.
-#[derive(Clone, Copy, Debug, PartialEq, Eq)]
+#[derive(Clone, Copy)]
 pub struct Failed;
 
 /// Memory ran out.
-#[derive(Clone, Copy, Debug, PartialEq, Eq)]
+#[derive(Clone, Copy)]
 pub struct Memory;
 
 impl From<AllocError> for Memory {

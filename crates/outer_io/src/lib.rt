@@ -18,5 +18,3 @@ pub use sinks::{Sink, write_all};
 pub use sources::Source;
 pub use standard::{StdSink, StdSource};
 
-#[cfg(test)]
-mod tests;

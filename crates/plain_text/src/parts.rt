@@ -30,7 +30,7 @@ fn cut(text: &[u8], separator: u8) -> (&[u8], Option<&[u8]>)
 }
 
 /// The fields of a line that are still to come; between two of them stands exactly one space.
-#[derive(Debug, Drop)]
+#[derive(Drop)]
 pub struct Fields<'a> {
     rest: Option<&'a [u8]>,
 }
@@ -77,7 +77,7 @@ impl<'a> Iterator for Fields<'a> {
 ///
 /// A line ends with a newline, or at the end of the text if it isn't empty there. One carriage return before the newline is
 /// dropped.
-#[derive(Debug, Drop)]
+#[derive(Drop)]
 pub struct TextLines<'a> {
     rest: &'a [u8],
 }

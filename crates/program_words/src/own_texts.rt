@@ -9,7 +9,7 @@ use std::fmt::Display;
 use std::process::ExitCode;
 
 /// A text of a program's own.
-#[derive(Clone, Copy, Debug, PartialEq, Eq)]
+#[derive(Clone, Copy)]
 pub enum OwnText {
     /// What the program does, its words and its exit statuses.
     Help,

@@ -4,7 +4,7 @@ use std::env::{self, Env};
 use std::io::{self, ErrorKind};
 
 /// Why the words can't be had.
-#[derive(Clone, Copy, Debug, PartialEq, Eq)]
+#[derive(Clone, Copy)]
 pub enum NoWords {
     /// There is no memory for them.
     Memory,

@@ -8,7 +8,7 @@ use crate::units::{Quantity, Unit, UnitName};
 
 /// The codes from `first` to `last` count in the same unit, the first with the exponent `least`, each
 /// other one with one more.
-#[derive(Clone, Copy, Debug)]
+#[derive(Clone, Copy)]
 pub struct UnitRow {
     pub first: u8,
     pub last: u8,

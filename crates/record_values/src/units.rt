@@ -8,7 +8,7 @@ use crate::unit_tables::{AFTER_FB, AFTER_FD, PRIMARY, unit_in};
 use dif_vif::RecordSpan;
 
 /// What a record measures or states.
-#[derive(Clone, Copy, Debug, PartialEq, Eq)]
+#[derive(Clone, Copy)]
 pub enum Quantity {
     /// Energy, or heat.
     Energy,
@@ -71,7 +71,7 @@ pub enum Quantity {
 }
 
 /// The unit in which a record's value counts.
-#[derive(Clone, Copy, Debug, PartialEq, Eq)]
+#[derive(Clone, Copy)]
 pub enum UnitName {
     /// Wh
     WattHour,
@@ -120,7 +120,7 @@ pub enum UnitName {
 }
 
 /// What a record measures, in which unit, and where its modifiers stand.
-#[derive(Clone, Copy, Debug, PartialEq, Eq)]
+#[derive(Clone, Copy)]
 pub struct Unit {
     /// What is measured or stated.
     pub quantity: Quantity,

@@ -11,7 +11,7 @@ use crate::units::{Quantity, unit_of};
 use dif_vif::RecordSpan;
 
 /// What a record says. Its data count in the record's unit.
-#[derive(Clone, Copy, Debug, PartialEq, Eq)]
+#[derive(Clone, Copy)]
 pub enum Value {
     /// There are no data.
     None,
@@ -50,7 +50,7 @@ pub enum Value {
 }
 
 /// How the data of a quantity are read.
-#[derive(Clone, Copy, Debug)]
+#[derive(Clone, Copy)]
 pub enum Reading {
     Unread,
     Day,

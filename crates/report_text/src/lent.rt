@@ -4,7 +4,7 @@ use meter_slots::{Counts, Ended, SlotBook};
 use stranger_ring::Strangers;
 
 /// What a receiver's run came to.
-#[derive(Clone, Copy, Debug, PartialEq, Eq)]
+#[derive(Clone, Copy)]
 pub struct ReceiverEnd {
     /// Its lines, and how many of each class.
     pub counts: Counts,
@@ -13,7 +13,7 @@ pub struct ReceiverEnd {
 }
 
 /// What the line of a meter says.
-#[derive(Clone, Copy, Debug, PartialEq, Eq)]
+#[derive(Clone, Copy)]
 pub struct MeterLine {
     /// The meter.
     pub address: Address,

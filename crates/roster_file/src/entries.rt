@@ -6,7 +6,7 @@ use plain_text::TextLines;
 use std::marker::Model;
 
 /// A line that counts, with its number.
-#[derive(Clone, Copy, Debug)]
+#[derive(Clone, Copy)]
 pub struct Entry<'a> {
     /// Its number.
     pub line: u32,
@@ -15,7 +15,7 @@ pub struct Entry<'a> {
 }
 
 /// The lines that are still to come.
-#[derive(Debug, Drop)]
+#[derive(Drop)]
 pub struct Entries<'a> {
     lines: TextLines<'a>,
     line: u32,

@@ -10,7 +10,7 @@ use meter_address::{Address, Commission, Mode, read_key};
 use plain_text::{Fields, read_number};
 
 /// The version of a roster's text, which its head says.
-#[derive(Clone, Copy, Debug, PartialEq, Eq)]
+#[derive(Clone, Copy)]
 pub enum Version {
     /// A meter has one key.
     One,

@@ -12,7 +12,7 @@ use outer_io::{ReadError, Source, read_all};
 use std::alloc::Global;
 
 /// Why a source gives no roster.
-#[derive(Clone, Copy, Debug, PartialEq, Eq)]
+#[derive(Clone, Copy)]
 pub enum LoadFault {
     /// A read failed, and the source's count of faults says so.
     Read,

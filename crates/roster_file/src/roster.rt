@@ -4,7 +4,7 @@ use std::marker::Model;
 use thiserror::Error;
 
 /// What is wrong with a line of a roster: the first of these that applies.
-#[derive(Clone, Copy, Debug, PartialEq, Eq)]
+#[derive(Clone, Copy, Debug)]
 pub enum LineCause {
     /// The text has more bytes than a roster may have. It has line number 0 and comes before all others.
     TooLong,
@@ -39,7 +39,7 @@ pub enum LineCause {
 }
 
 /// Why a text gives no roster.
-#[derive(Clone, Copy, Debug, PartialEq, Eq, Error)]
+#[derive(Clone, Copy, Debug, Error)]
 pub enum RosterFault {
     /// The first faulty line, counted from 1, and what is wrong with it.
     #[error("roster line")]
@@ -50,7 +50,7 @@ pub enum RosterFault {
 }
 
 /// The collector's own address and the commissioned meters, in the order of their lines.
-#[derive(Debug, Drop)]
+#[derive(Drop)]
 pub struct Roster {
     own: Address,
     meters: Vec<Commission>,

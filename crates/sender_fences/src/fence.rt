@@ -4,7 +4,7 @@ ghost use Rattle.sender_fences.specs.declared.fence.Asked.{Asked};
 ghost use Rattle.sender_fences.specs.Fences.{is_past, is_next, behind, answer_of, passed, IsNext, IsPast, IsBeyond};
 
 /// What a sender gave a message: an epoch, and the message's number there, from 1.
-#[derive(Clone, Copy, Debug, PartialEq, Eq)]
+#[derive(Clone, Copy)]
 pub struct Numbered {
     /// The epoch in which the sender numbered it.
     pub epoch: u64,
@@ -13,7 +13,7 @@ pub struct Numbered {
 }
 
 /// Up to where a sender's messages were taken.
-#[derive(Clone, Copy, Debug, PartialEq, Eq)]
+#[derive(Clone, Copy)]
 pub struct Fence {
     /// The epoch of the last message that was taken, or 0.
     pub epoch: u64,
@@ -22,7 +22,7 @@ pub struct Fence {
 }
 
 /// What a sender is asked for: its messages of an epoch from a number on.
-#[derive(Clone, Copy, Debug, PartialEq, Eq)]
+#[derive(Clone, Copy)]
 pub struct Asked {
     /// The epoch.
     pub epoch: u64,
@@ -31,7 +31,7 @@ pub struct Asked {
 }
 
 /// What is answered to a message.
-#[derive(Clone, Copy, Debug, PartialEq, Eq)]
+#[derive(Clone, Copy)]
 pub enum Answer {
     /// It is taken.
     Taken,

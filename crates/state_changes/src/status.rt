@@ -4,7 +4,7 @@ use roster_file::{LineCause, LoadFault};
 use state_file::{FileCause, StateLoadFault};
 
 /// How a change of a state ends: the first of these that applies, in this order, but for `Done` and `Memory`.
-#[derive(Clone, Copy, Debug, PartialEq, Eq)]
+#[derive(Clone, Copy)]
 pub enum ChangeStatus {
     /// Status 0: the next state is written.
     Done,

@@ -1,7 +1,7 @@
 //! Why a line of a state is refused.
 
 /// What is wrong with a line below a meter's line: the first of these that applies.
-#[derive(Clone, Copy, Debug, PartialEq, Eq)]
+#[derive(Clone, Copy)]
 pub enum StateCause {
     /// The first field is none of the words that can stand here.
     Kind,
@@ -26,7 +26,7 @@ pub enum StateCause {
 }
 
 /// Why a line isn't taken.
-#[derive(Clone, Copy, Debug, PartialEq, Eq)]
+#[derive(Clone, Copy)]
 pub enum LineFault {
     /// This is wrong with it.
     Cause(StateCause),

@@ -3,7 +3,7 @@ use crate::cause::StateCause;
 use roster_file::LineCause;
 
 /// What is wrong with a line of a state.
-#[derive(Clone, Copy, Debug, PartialEq, Eq)]
+#[derive(Clone, Copy)]
 pub enum FileCause {
     /// What may also be wrong with a roster: its own line, a meter's line, or the end that is missing.
     Roster(LineCause),
@@ -16,7 +16,7 @@ pub enum FileCause {
 }
 
 /// Why a text gives no state.
-#[derive(Clone, Copy, Debug, PartialEq, Eq)]
+#[derive(Clone, Copy)]
 pub enum StateFault {
     /// The text has too many bytes, or not the head of a state, and is no roster either: the roster's first faulty line, counted from 1,
     /// and what is wrong with it.

@@ -15,7 +15,7 @@ use roster_file::LineCause;
 use std::alloc::Global;
 
 /// Why a source gives no state.
-#[derive(Clone, Copy, Debug, PartialEq, Eq)]
+#[derive(Clone, Copy)]
 pub enum StateLoadFault {
     /// A read failed, and the source's count of faults says so.
     Read,

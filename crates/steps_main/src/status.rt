@@ -7,7 +7,7 @@ use roster_file::LineCause;
 use state_file::FileCause;
 
 /// How a run ended. A write that failed comes before an end of the lines: after `Done`, `Read` and `Cut` all that is written is whole.
-#[derive(Clone, Copy, Debug, PartialEq, Eq)]
+#[derive(Clone, Copy)]
 pub enum StepsStatus {
     /// Status 0: all of the receiver's lines were told.
     Done,

@@ -9,7 +9,7 @@ use std::marker::Model;
 pub const RING_MAX: usize = 256;
 
 /// A line of a stranger: its receiver, its number there, and the address.
-#[derive(Clone, Copy, Debug, PartialEq, Eq)]
+#[derive(Clone, Copy)]
 pub struct Heard {
     /// The receiver, from 1.
     pub source: u32,

@@ -19,7 +19,7 @@ const LONG_RESPONSE: u8 = 0x72;
 const LONG_TRANSPORT: u8 = 0x8B;
 
 /// A transport header (EN 13757-7): short, of CI 7A or 8A, or long, of CI 72 or 8B, which has an address.
-#[derive(Clone, Copy, Debug, PartialEq, Eq)]
+#[derive(Clone, Copy)]
 pub struct Tpl {
     /// The CI.
     pub ci: u8,
@@ -39,7 +39,7 @@ pub struct Tpl {
 }
 
 /// Why bytes begin with no transport header: the first of these that applies.
-#[derive(Clone, Copy, Debug, PartialEq, Eq)]
+#[derive(Clone, Copy)]
 pub enum TplFault {
     /// There is no byte, or there are fewer than the header has. There are this many.
     Truncated(usize),
