@@ -857,6 +857,32 @@ def test_a_tick_at_which_the_program_fails(fleet: Fleet, monkeypatch: pytest.Mon
     assert store.one(fleet.database, "select count(*) from line where message = 0 and place = 90") == 1
 
 
+@pytest.mark.parametrize("status", [-9, 10])
+def test_a_program_that_is_ended_again_and_again(fleet: Fleet, monkeypatch: pytest.MonkeyPatch, caplog: pytest.LogCaptureFixture, status: int
+                                                 ) -> None:
+    """As where the machine's memory is short: that is said once, as what it is, and counted, and no line is set aside for it, also where it
+    comes while the program is looked at without one that it failed at twice."""
+    meter, ends = fleet.meters[0].name, [*[status] * 9, 101, 101, status]
+    shard = store.one(fleet.database, "select shard_of(%s)", (meter,))
+
+    def run(words: Any, state: str, lines: list[str]) -> Any:
+        if ends:
+            raise ProgramFailed(ends.pop(0), "no")
+        return stand_in(words, state, lines)
+    monkeypatch.setattr(sessions, "run_steps", run)
+    rows = [(meter, fleet.gateway, 1, 1, place, f"A {place} 00") for place in (1, 2, 3)]
+    store.copy_rows(fleet.database, "inbox (address, gateway, epoch, message, place, text)", rows)
+    hearing = sessions.Sessions(fleet.config, fleet.database)
+    assert [hearing.session(shard, NOW) for _ in range(9)] == 9 * [0], "it waits, and doesn't go on at once"
+    said = [it.getMessage() for it in caplog.records]
+    assert len(said) == 1 and "ended from outside" in said[0] and "memory" in said[0]
+    for _ in range(5):
+        hearing.session(shard, NOW)
+    assert [place for (place,) in fleet.database.execute("select place from line order by number")] == [1, 2, 3]
+    assert store.one(fleet.database, "select count(*) from aside") == 0
+    assert metrics.take(fleet.config).counters["ended"] == 10.0
+
+
 def test_two_gateways_in_the_same_moment(fleet: Fleet, tmp_path: Path, monkeypatch: pytest.MonkeyPatch) -> None:
     """As behind a start of the broker: another one of the name that listens just behind the question whether there is one is seen."""
     service, ending = ServiceConfig(tmp_path / "service", receivers={"radio": Receiver()}), Ending()

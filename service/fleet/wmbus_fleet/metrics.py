@@ -31,6 +31,7 @@ COUNTERS = {name: words for name, words in OF_SESSIONS.items() if name != "lines
     "lines": "lines of gateways that were taken", "heard": "lines of gateways that a session heard",
     "messages": "messages of gateways that came", "take": "messages that were taken", "again": "messages that had come before",
     "ask": "messages behind a gap", "asked": "questions to gateways", "unknown": "messages of gateways that aren't known",
+    "ended": "runs of the sessions' program that were ended from outside, or had no memory",
 }
 GAUGES = {
     "lag_seconds": "how long ago the oldest line that waits for a session was heard, by its receiver's clock",
