@@ -14,6 +14,7 @@ import subprocess
 import threading
 import time
 import tracemalloc
+import urllib.request
 from collections.abc import Callable
 from configparser import ConfigParser
 from contextlib import closing
@@ -1118,6 +1119,34 @@ def test_where_no_metrics_can_be(told: Metrics) -> None:
         metrics.run(Config(metrics=told), Ending())
 
 
+def test_silent_and_slow_connections_to_the_metrics(monkeypatch: pytest.MonkeyPatch) -> None:
+    """Who connects and says nothing, or a byte now and then, as anybody may who reaches the port, holds nothing for longer than a moment, and
+    however many do, the metrics are had meanwhile."""
+    monkeypatch.setattr(metrics, "SILENCE", 1.0)
+    monkeypatch.setattr(metrics, "take", lambda _config: metrics.Taken(counters={"heard": 5.0}))
+    ending, port = Ending(), own_servers.free_port()
+    serving = threading.Thread(target=metrics.run, args=(Config(metrics=Metrics(port=port)), ending))
+    serving.start()
+    try:
+        until(lambda: own_servers._listens(port))
+        threads = threading.active_count()
+        slow, *silent = [socket.create_connection(("127.0.0.1", port)) for _ in range(100)]
+        with closing(urllib.request.urlopen(f"http://127.0.0.1:{port}/metrics", timeout=LIMIT)) as answer:
+            assert b"wmbus_fleet_heard_total 5.0" in answer.read()
+        assert threading.active_count() <= threads + 40
+        with pytest.raises(ConnectionError):
+            for _ in range(20 * LIMIT):
+                slow.send(b"G")
+                time.sleep(0.05)
+        for opened in silent:
+            opened.settimeout(LIMIT)
+            assert opened.recv(1) == b""
+        until(lambda: threading.active_count() <= threads)
+    finally:
+        ending.set()
+        serving.join(LIMIT)
+
+
 def test_what_metrics_lack_is_said_once(fleet: Fleet, monkeypatch: pytest.MonkeyPatch, caplog: pytest.LogCaptureFixture) -> None:
     """And anew once it was there meanwhile: they are taken four times a minute, over a weekend without a database too."""
     ending, turns, nowhere = Ending(), 0, Broker(port=1)
@@ -1133,7 +1162,7 @@ def test_what_metrics_lack_is_said_once(fleet: Fleet, monkeypatch: pytest.Monkey
         return take(fleet.config if turns in (5, 6) else replace(fleet.config, broker=nowhere))
     monkeypatch.setattr(metrics, "take", taken)
     monkeypatch.setattr(metrics, "INTERVAL", 0.01)
-    monkeypatch.setattr(metrics, "start_http_server", lambda *_, **__: None)
+    monkeypatch.setattr(metrics, "serve", lambda *_: None)
     metrics.run(fleet.config, ending)
     said = [it.getMessage() for it in caplog.records if it.getMessage().startswith("the metrics: ")]
     assert ["no database" in it for it in said] == [True, False, False] and all("port 1" in it for it in said[1:])
