@@ -595,6 +595,28 @@ def test_epochs_that_begin_again_and_again(fleet: Fleet) -> None:
     assert fleet.database.execute("select count(*), min(epoch), max(epoch) from missing").fetchone() == (10_000, 5, 10_004)
 
 
+@pytest.mark.parametrize("days, left", [(365, ["c2", "c3", "c4", 3, 4]), (0, ["c1", "c2", "c3", "c4", 1, 2, 3, 4])])
+def test_commands_that_are_done_go_after_a_time(fleet: Fleet, days: int, left: list[object]) -> None:
+    """With their downlinks, and no sooner; what is open stays, however old it is."""
+    old, meter = NOW - 366 * DAY, fleet.meters[0].name
+    told = (("confirmed", old), ("waiting", old), ("sent", old), ("expired", NOW - 364 * DAY))
+    store.copy_rows(fleet.database, "command (id, address, kind, payload, state, made, changed)",
+                    [(f"c{place}", meter, "send", "01", state, old, changed) for place, (state, changed) in enumerate(told, 1)])
+    store.copy_rows(fleet.database, "outbox (gateway, address, down, frame, command, made, sent, missed)", [
+        ("gw", meter, 1, "01", 1, old, old, None), ("gw", meter, 2, "02", 1, old, None, "it is too late"),
+        ("gw", meter, 3, "03", 1, old, None, None), ("gw", meter, 4, "04", 1, NOW - 364 * DAY, NOW, None)])
+    let_go(fleet.database, Keep(commands=days), NOW)
+    assert [*(ident for (ident,) in fleet.database.execute("select id from command order by id")),
+            *(down for (down,) in fleet.database.execute("select down from outbox order by down"))] == left
+
+
+def test_many_lines_that_were_set_aside(fleet: Fleet) -> None:
+    """What is kept of them is bounded, and the last ones are told."""
+    store.copy_rows(fleet.database, "aside (gateway, text, said, made)", [("gw", "A 1 00", "no", NOW) for _ in range(10_005)])
+    let_go(fleet.database, Keep(), NOW)
+    assert fleet.database.execute("select count(*), min(id) from aside").fetchone() == (10_000, 6)
+
+
 def test_a_line_that_is_far_too_long() -> None:
     """So much is kept of it as of a receiver's, which the program calls bad: a session takes 4,000 lines at once."""
     assert frames_in(["A 1 00", "A 1 " + 200_000 * "0"]) == [(1, "A 1 00"), (2, ("A 1 " + 200_000 * "0")[:LONGEST])]

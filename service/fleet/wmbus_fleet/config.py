@@ -90,6 +90,8 @@ class Keep:
 
     lines: int = 7
     readings: int = 0
+    # those that are done, with their downlinks
+    commands: int = 365
 
 
 @dataclass(frozen=True)
