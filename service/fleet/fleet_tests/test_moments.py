@@ -517,6 +517,23 @@ def test_ticks_that_wait_for_a_gateway_arent_late(fleet: Fleet) -> None:
     assert late() == ["1 ticks are late: no sessions run, or too few"]
 
 
+def test_how_long_something_waits(fleet: Fleet) -> None:
+    """Of lines, downlinks and commands the oldest one tells, in `status` and in the metrics; what is done waits no more."""
+    now, meter = time.time(), fleet.meters[0].name
+    store.copy_rows(fleet.database, "inbox (address, gateway, epoch, message, place, text)",
+                    [(meter, fleet.gateway, 1, 1, place, f"A {int(now) - age} 00") for place, age in ((1, 300), (2, 100))])
+    store.copy_rows(fleet.database, "outbox (gateway, address, down, frame, command, made, sent)",
+                    [("gw", meter, 1, "01", 1, now - 900, now), ("gw", meter, 2, "02", 1, now - 200, None)])
+    store.copy_rows(fleet.database, "command (id, address, kind, payload, state, made, changed)",
+                    [(state, meter, "send", "01", state, now - age, now) for state, age in (("confirmed", 900), ("sent", 400), ("waiting", 5))])
+    said = [re.sub(r"(?<=for )(\d+)(?= s)", lambda found: str(int(found[1]) // 100 * 100), line) for line in in_words(figures(fleet.database))]
+    assert "2 lines wait for a session, the oldest for 300 s; 1 downlinks for the broker, the oldest for 200 s" in said
+    assert "commands: 1 confirmed, 1 sent, 1 waiting; the oldest open one for 400 s" in said
+    gauges = metrics.take(fleet.config).gauges
+    for name, least in (("lag_seconds", 300), ("downlinks_waiting_seconds", 200), ("commands_open_seconds", 400)):
+        assert least - 2 <= gauges[name] < least + LIMIT, name
+
+
 def test_late_ticks_of_the_metrics(fleet: Fleet) -> None:
     """They are those that `status` tells of, also over the tables of a release that counted all of them."""
     now = time.time()

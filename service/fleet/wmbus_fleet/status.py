@@ -7,6 +7,7 @@ from collections.abc import Iterator
 from typing import Any
 
 from psycopg.rows import dict_row
+from wmbus_service.commands import OPEN
 
 from . import store
 from .store import Database
@@ -21,6 +22,13 @@ REFUSALS = """
     select coalesce(g.area, '') as area, r.reason, sum(r.times)::bigint as times, count(*) as meters
     from refusal r left join meter m using (address) left join gateway g on g.name = m.gateway
     group by 1, 2 order by 1, 3 desc, 2"""
+# for how many seconds the oldest one of what waits does, also by the views of the page
+AGE = "select greatest(0, extract(epoch from now()) - min({}))::bigint from"
+AGES = {
+    "lines": f"{AGE.format('heard')} page.waiting where heard <= extract(epoch from now())",
+    "downlinks": f"{AGE.format('made')} outbox where sent is null and missed is null",
+    "commands": f"{AGE.format('made')} command where state in ('waiting', 'queued', 'sent')",
+}
 # parts without which nothing is heard
 UNITS = {"intake": "wmbus-intake@0", "sessions": "wmbus-sessions@0", "downlinks": "wmbus-downlinks"}
 PARTS = tuple(UNITS)
@@ -39,6 +47,7 @@ def figures(database: Database) -> dict[str, Any]:
         "meters": store.one(database, "select count(*) from meter"),
         "inbox": store.one(database, "select count(*) from inbox"),
         "downlinks_waiting": store.one(database, "select count(*) from outbox where sent is null and missed is null"),
+        "ages": {name: store.one(database, query) for name, query in AGES.items()},
         # (others wait for what a gateway that is cut off heard before they were due)
         "ticks_late": store.one(database, "select count(*) from meter m left join gateway g on g.name = m.gateway where m.due < %s"
                                           " and (g.name is null or g.until > m.due)", (time.time() - 60,)),
@@ -72,7 +81,9 @@ def in_words(told: dict[str, Any]) -> Iterator[str]:
     totals = told["totals"]
     taken, heard, stored = (totals.get(name, 0) for name in ("lines", "heard", "stored"))
     yield f"{told['meters']} meters; {taken} lines taken, {heard} heard, {stored} readings"
-    yield f"{told['inbox']} lines wait for a session, {told['downlinks_waiting']} downlinks for the broker"
+    ages, waiting = told["ages"], told["downlinks_waiting"]
+    yield (f"{told['inbox']} lines wait for a session" + (f", the oldest for {ages['lines']} s" if told["inbox"] else "")
+           + f"; {waiting} downlinks for the broker" + (f", the oldest for {ages['downlinks']} s" if waiting else ""))
     runs = {part: sum(count for name, count in told["workers"].items() if name == f"wmbus {part}") for part in PARTS}
     yield "at work: " + ", ".join(f"{count} {part}" for part, count in runs.items())
     for part, count in runs.items():
@@ -83,7 +94,8 @@ def in_words(told: dict[str, Any]) -> Iterator[str]:
     if told["ticks_late"]:
         yield f"{told['ticks_late']} ticks are late: no sessions run, or too few"
     if told["commands"]:
-        yield "commands: " + ", ".join(f"{count} {state}" for state, count in told["commands"].items())
+        yield ("commands: " + ", ".join(f"{count} {state}" for state, count in told["commands"].items())
+               + (f"; the oldest open one for {ages['commands']} s" if {*OPEN, "waiting"} & told["commands"].keys() else ""))
     for it in told["gateways"]:
         yield f"gateway {it['name']} in {it['area']}: " + ("never heard" if it["age"] is None else f"not heard for {it['age']} s")
     for it in told["clocks"]:
