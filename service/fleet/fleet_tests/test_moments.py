@@ -253,6 +253,21 @@ def test_what_fails_again_is_said_once(house: House, monkeypatch: pytest.MonkeyP
     assert len([it for it in caplog.records if "full" in it.getMessage()]) == 1
 
 
+def test_a_broker_that_doesnt_come_back(house: House, monkeypatch: pytest.MonkeyPatch, caplog: pytest.LogCaptureFixture) -> None:
+    """What waits for it stays, and the gateway's log says each day how much it is, and since when."""
+    clock = NOW
+    monkeypatch.setattr(gateway, "time", SimpleNamespace(time=lambda: clock, monotonic=lambda: clock))
+    house.agent.config = Config(broker=Broker(port=1))
+    house.database.execute("update message set acknowledged = 0 where number > 1")
+    for hours in range(60):
+        clock, ending = NOW + 3600 * hours + 20, Ending()
+        monkeypatch.setattr(house.agent, "number", lambda _now, ending=ending: ending.set())
+        house.agent.run(ending)
+    said = [it.getMessage() for it in caplog.records if "wait for the broker" in it.getMessage()]
+    assert [re.findall("[0-9]+", it)[1:] for it in said] == [["2", "1"], ["2", "25"], ["2", "49"]]
+    assert len(house.messages()) == 3
+
+
 def test_a_gateways_file_that_its_disk_damages(house: House, monkeypatch: pytest.MonkeyPatch, caplog: pytest.LogCaptureFixture) -> None:
     """While it works: its log says what to do about it, as where it can't begin."""
     ending, fault = Ending(), sqlite3.DatabaseError("database disk image is malformed")
