@@ -334,23 +334,32 @@ def test_what_is_too_large_costs_no_memory() -> None:
     assert most < len(body)
 
 
-def test_a_batch_of_many_areas(fleet: Fleet, monkeypatch: pytest.MonkeyPatch) -> None:
-    """Of each area the broker gives as many messages as an intake has in hand; no batch has more than that, since the program takes 131,072
-    lines at most (docs/FORMATS.md, "Exit statuses")."""
-    monkeypatch.setattr("wmbus_fleet.intake.PREFETCH", 3)
+@pytest.mark.parametrize("most, given", [(4, 4), (1, 2)])
+def test_a_batch_of_many_areas(fleet: Fleet, monkeypatch: pytest.MonkeyPatch, most: int, given: int) -> None:
+    """All areas together give an intake no more messages than it has in hand, or one each where there are more areas, however many wait of
+    each; no batch has more either, since the program takes 131,072 lines at most (docs/FORMATS.md, "Exit statuses"). It doesn't wait for more
+    of an area that gives none before some are acknowledged."""
+    monkeypatch.setattr("wmbus_fleet.intake.PREFETCH", most)
     areas = [fleet.area, f"{fleet.area}2"]
     commands.add_area(fleet.config, fleet.database, areas[1])
     with broker.connected(fleet.config.broker) as connection:
-        consuming, channel = Consuming(Intake(fleet.config, fleet.database, "test"), connection, areas), broker.opened(connection)
-        for area in areas:
-            for number in (1, 2, 3):
-                broker.publish(channel, broker.EXCHANGE, broker.up_key(area, "gw"), lines_body(5, number, 9, b""))
-
-        def are_given() -> bool:
+        publishing = broker.opened(connection)
+        for area, numbers in zip(areas, ((1, 2, 3, 4, 5, 6), (1, 2)), strict=True):
+            for number in numbers:
+                broker.publish(publishing, broker.EXCHANGE, broker.up_key(area, f"{fleet.gateway}{area[-1]}"), lines_body(5, number, 9, b""))
+        told = replace(fleet.config, interval=3600.0)
+        consuming = Consuming(Intake(told, fleet.database, "test"), connection, areas)
+        limit = time.monotonic() + 2
+        while time.monotonic() < limit:
             connection.process_data_events(0.05)
-            return len(consuming.held) == 6
-        until(are_given)
-        assert [consuming.turn(), consuming.turn()] == [3, 3]
+        assert len(consuming.held) == given
+        counts: list[int] = []
+
+        def are_taken() -> bool:
+            counts.append(consuming.turn())
+            return sum(counts) == 8
+        until(are_taken)
+    assert max(counts) <= most
 
 
 def test_a_number_that_no_message_has(fleet: Fleet) -> None:
