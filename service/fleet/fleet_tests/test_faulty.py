@@ -17,7 +17,7 @@ from wmbus_fleet.config import Gateway, Keep
 from wmbus_fleet.gateway import Agent, open_gateway
 from wmbus_fleet.intake import Intake
 from wmbus_fleet.messages import Again, Message
-from wmbus_fleet.retention import let_go
+from wmbus_fleet.retention import Retention
 from wmbus_fleet.status import figures, in_words
 from wmbus_service.config import Config as ServiceConfig
 from wmbus_service.config import Receiver
@@ -194,7 +194,8 @@ def test_what_is_kept_no_longer(fleet: Fleet, keep: Keep, lines: list[int], read
                     [(number, *row) for number, row in enumerate(made, 1)])
     store.copy_rows(fleet.database, "reading (line, address, gateway, counter, moment, payload, fault, more, records, made)",
                     [(number, "m", "g", number, 0, "00", None, False, "[]", now - days * day) for number, days in ((1, 6), (2, 4), (3, 1))])
-    assert let_go(fleet.database, keep, now) is (len(lines) + len(readings) < 7)
-    assert not let_go(fleet.database, keep, now)
+    fleet.tell(now)
+    assert Retention(fleet.database, keep).let_go(now) is (len(lines) + len(readings) < 7)
+    assert not Retention(fleet.database, keep).let_go(now)
     assert store.one(fleet.database, "select array_agg(number order by number) from line") == lines
     assert store.one(fleet.database, "select array_agg(line order by line) from reading") == readings

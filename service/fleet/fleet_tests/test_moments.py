@@ -42,7 +42,7 @@ from wmbus_fleet.demo import Demo
 from wmbus_fleet.gateway import Agent, arm, open_gateway
 from wmbus_fleet.intake import Consuming, Intake
 from wmbus_fleet.messages import LAST, Again, Down, Message, down_body, frames_in, lines_body, read_lines
-from wmbus_fleet.retention import let_go
+from wmbus_fleet.retention import Retention
 from wmbus_fleet.status import figures, in_words
 from wmbus_fleet.view.app import create_app
 from wmbus_service import store as service_store
@@ -146,6 +146,7 @@ def test_what_is_kept_no_longer_goes_while_lines_come(fleet: Fleet, monkeypatch:
             ending.set()
         return 1
     monkeypatch.setattr(sessions.Sessions, "turn", turn)
+    fleet.tell(time.time())
     store.copy_rows(fleet.database, "line (number, address, text, made)", [(1, "m", "A 1 00", time.time() - 9 * DAY)])
     sessions.run(replace(fleet.config, interval=0.01), ending)
     assert store.one(fleet.database, "select count(*) from line") == 0
@@ -632,13 +633,14 @@ def test_epochs_that_begin_again_and_again(fleet: Fleet) -> None:
     """Of a gateway that loses its disk with each start what is kept is bounded, and the last ones are told."""
     rows = [("gw", epoch, 1, float(epoch)) for epoch in range(10_005)]
     store.copy_rows(fleet.database, "missing (gateway, epoch, number, made)", rows)
-    let_go(fleet.database, Keep(), NOW)
+    Retention(fleet.database, Keep()).let_go(NOW)
     assert fleet.database.execute("select count(*), min(epoch), max(epoch) from missing").fetchone() == (10_000, 5, 10_004)
 
 
 @pytest.mark.parametrize("days, left", [(365, ["c2", "c3", "c4", 3, 4]), (0, ["c1", "c2", "c3", "c4", 1, 2, 3, 4])])
 def test_commands_that_are_done_go_after_a_time(fleet: Fleet, days: int, left: list[object]) -> None:
     """With their downlinks, and no sooner; what is open stays, however old it is."""
+    fleet.tell(NOW)
     old, meter = NOW - 366 * DAY, fleet.meters[0].name
     told = (("confirmed", old), ("waiting", old), ("sent", old), ("expired", NOW - 364 * DAY))
     store.copy_rows(fleet.database, "command (id, address, kind, payload, state, made, changed)",
@@ -646,7 +648,7 @@ def test_commands_that_are_done_go_after_a_time(fleet: Fleet, days: int, left: l
     store.copy_rows(fleet.database, "outbox (gateway, address, down, frame, command, made, sent, missed)", [
         ("gw", meter, 1, "01", 1, old, old, None), ("gw", meter, 2, "02", 1, old, None, "it is too late"),
         ("gw", meter, 3, "03", 1, old, None, None), ("gw", meter, 4, "04", 1, NOW - 364 * DAY, NOW, None)])
-    let_go(fleet.database, Keep(commands=days), NOW)
+    Retention(fleet.database, Keep(commands=days)).let_go(NOW)
     assert [*(ident for (ident,) in fleet.database.execute("select id from command order by id")),
             *(down for (down,) in fleet.database.execute("select down from outbox order by down"))] == left
 
@@ -654,7 +656,7 @@ def test_commands_that_are_done_go_after_a_time(fleet: Fleet, days: int, left: l
 def test_many_lines_that_were_set_aside(fleet: Fleet) -> None:
     """What is kept of them is bounded, and the last ones are told."""
     store.copy_rows(fleet.database, "aside (gateway, text, said, made)", [("gw", "A 1 00", "no", NOW) for _ in range(10_005)])
-    let_go(fleet.database, Keep(), NOW)
+    Retention(fleet.database, Keep()).let_go(NOW)
     assert fleet.database.execute("select count(*), min(id) from aside").fetchone() == (10_000, 6)
 
 
@@ -883,10 +885,53 @@ def test_a_downlink_of_a_servers_clock_that_is_set_back(fleet: Fleet) -> None:
 def test_what_was_written_while_a_servers_clock_was_ahead(fleet: Fleet, monkeypatch: pytest.MonkeyPatch) -> None:
     """It holds up nothing that is kept no longer, however much it is."""
     monkeypatch.setattr("wmbus_fleet.retention.STEP", 3)
+    fleet.tell(NOW)
     made = [*[NOW + 900 * DAY] * 4, *[NOW - 9 * DAY] * 5, NOW - DAY]
     store.copy_rows(fleet.database, "line (number, address, text, made)", [(place, "m", "A 1 00", it) for place, it in enumerate(made)])
-    assert [let_go(fleet.database, Keep(), NOW) for _ in range(3)] == [True, True, False]
+    assert [Retention(fleet.database, Keep()).let_go(NOW) for _ in range(3)] == [True, True, False]
     assert store.one(fleet.database, "select array_agg(number order by number) from line") == [0, 1, 2, 3, 9]
+
+
+def put_readings(fleet: Fleet, told: list[tuple[float, float]]) -> None:
+    """Readings that were written at moments of the server's, and told of moments of a gateway's, by their numbers."""
+    store.copy_rows(fleet.database, "reading (line, address, counter, moment, payload, more, records, made)",
+                    [(line, fleet.meters[0].name, line, moment, "", False, "[]", made) for line, (made, moment) in enumerate(told, 1)])
+
+
+def readings_left(fleet: Fleet) -> list[int]:
+    """The numbers of the readings that are there."""
+    return [line for (line,) in fleet.database.execute("select line from reading order by line")]
+
+
+def test_a_servers_clock_that_is_far_ahead(fleet: Fleet, caplog: pytest.LogCaptureFixture) -> None:
+    """It lets no reading go that is young by most gateways' clocks, and none at all while it hears of no gateway, as just behind the moment
+    at which it was set so. That is said once."""
+    now, keep = int(time.time()), Keep(readings=365)
+    put_readings(fleet, [(now - 366 * DAY, now - 366 * DAY), (now - 364 * DAY, now - 364 * DAY), (now - DAY, now - DAY)])
+    retaining = Retention(fleet.database, keep)
+    assert not retaining.let_go(now + 400 * DAY) and readings_left(fleet) == [1, 2, 3]
+    commands.add_gateway(fleet.config, fleet.database, fleet.area, f"{fleet.gateway}2")
+    commands.add_gateway(fleet.config, fleet.database, fleet.area, f"{fleet.gateway}3")
+    untils = {f"{fleet.gateway}": now - 100, f"{fleet.gateway}2": now - 30, f"{fleet.gateway}3": now + 4000 * int(DAY)}
+    for name, until_moment in untils.items():
+        fleet.database.execute("update gateway set until = %s, seen = now() where name = %s", (until_moment, name))
+    for _ in range(3):
+        retaining.let_go(now + 400 * DAY)
+    assert readings_left(fleet) == [2, 3]
+    assert len([it for it in caplog.records if "400 days" in it.getMessage() and "clock" in it.getMessage()]) == 1
+    fleet.database.execute("update gateway set until = until - %s where until < %s", (int(400 * DAY), now))
+    assert not retaining.let_go(now) and readings_left(fleet) == [2, 3], "gateways' clocks that are behind let nothing go"
+    assert metrics.take(fleet.config).gauges["gateways_clock_seconds"] == pytest.approx(-400 * DAY, abs=LIMIT)
+    assert [line for line in in_words(figures(fleet.database)) if "most gateways tell a moment 345600" in line and "s behind" in line]
+
+
+def test_what_was_written_while_a_servers_clock_was_behind(fleet: Fleet) -> None:
+    """As before it had the time, behind a start: a reading that its gateway heard a day ago stays; where that one's clock was wrong the
+    server's alone counts."""
+    fleet.tell(NOW)
+    put_readings(fleet, [(5.0, NOW - DAY), (5.0, NOW - 9 * DAY), (NOW - 9 * DAY, NOW + 4000 * DAY), (NOW - 9 * DAY, 0), (NOW - DAY, 0)])
+    Retention(fleet.database, Keep(readings=7)).let_go(NOW)
+    assert readings_left(fleet) == [1, 5]
 
 
 def test_a_tick_behind_another_gateways_later_line(fleet: Fleet) -> None:

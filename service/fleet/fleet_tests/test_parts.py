@@ -198,6 +198,10 @@ class Fleet:
         assert row
         return row[0], row[1]
 
+    def tell(self, moment: float) -> None:
+        """The gateway was just heard, and told of this moment."""
+        self.database.execute("update gateway set until = %s, seen = now()", (int(moment),))
+
 
 @pytest.fixture
 def fleet(both: Both, tmp_path: Path, request: pytest.FixtureRequest) -> Iterator[Fleet]:

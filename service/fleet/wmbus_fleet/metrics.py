@@ -24,7 +24,7 @@ from wmbus_service.trouble import Trouble
 
 from . import broker, store
 from .config import Config, Metrics
-from .status import AGES
+from .status import AGES, AHEAD
 from .view import looking
 from .view.door import FleetDoor
 
@@ -50,6 +50,7 @@ GAUGES = {
     "commands_open_seconds": "how long ago the oldest of these was put", "downlinks_missed": "downlinks that weren't sent in time",
     "aside_lines": "lines at which the program failed", "gaps": "epochs of gateways that ended with a gap",
     "ticks_late": "ticks that were due a minute ago or earlier and don't wait for a gateway that is cut off",
+    "gateways_clock_seconds": "how far most gateways' clocks are ahead of the database server's",
     "broker_up": "1 where the broker answers",
 }
 LABELLED = {
@@ -62,7 +63,7 @@ TABLES = ("meter", "line", "reading", "outbox", "command", "refusal")
 QUERIES = {
     "downlinks_missed": "select count(*) from outbox where missed is not null", "aside_lines": "select count(*) from aside",
     "gaps": "select count(*) from missing", "ticks_late": "select count from late",
-    "downlinks_waiting_seconds": AGES["downlinks"], "commands_open_seconds": AGES["commands"],
+    "gateways_clock_seconds": AHEAD, "downlinks_waiting_seconds": AGES["downlinks"], "commands_open_seconds": AGES["commands"],
 }
 NAMES = {"lag_seconds": "lag", "inbox_lines": "inbox", "meters": "meters", "meters_silent": "silent_meters",
          "meters_unheard": "unheard_meters", "downlinks_waiting": "downlinks_waiting", "commands_open": "commands"}

@@ -15,9 +15,10 @@ from wmbus_service.merging import moment_in
 from wmbus_service.steps import ProgramFailed, Told, run_steps, state_text
 from wmbus_service.trouble import Trouble
 
-from . import retention, store
+from . import store
 from .arrived import Arrived, arrived
 from .config import Config, Ticks
+from .retention import Retention
 from .rows import arrived_of
 from .schema import SHARDS
 from .store import Database
@@ -263,12 +264,12 @@ def run(config: Config, ending: Ending) -> None:
     while not ending.is_set():
         try:
             with store.connect(config.database) as database:
-                sessions, let_go_at = Sessions(config, database), time.monotonic()
+                sessions, retention, let_go_at = Sessions(config, database), Retention(database, config.keep), time.monotonic()
                 while not ending.is_set():
                     count = sessions.turn(time.time())
                     is_behind = count >= MOST // 2
                     # (of a large fleet each turn has lines)
-                    if not is_behind and time.monotonic() > let_go_at and not retention.let_go(database, config.keep, time.time()):
+                    if not is_behind and time.monotonic() > let_go_at and not retention.let_go(time.time()):
                         let_go_at = time.monotonic() + LET_GO
                     trouble = ""
                     ending.wait(0 if is_behind else config.interval)

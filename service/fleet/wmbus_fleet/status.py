@@ -29,6 +29,9 @@ AGES = {
     "downlinks": f"{AGE.format('made')} outbox where sent is null and missed is null",
     "commands": f"{AGE.format('made')} command where state in ('waiting', 'queued', 'sent')",
 }
+# how many seconds most gateways' clocks are ahead of the database server's
+AHEAD = """select coalesce(percentile_disc(0.5) within group (order by until - seen), 0)::bigint from page.gateway
+    where not gone and seen > extract(epoch from now()) - 3600"""
 # parts without which nothing is heard
 UNITS = {"intake": "wmbus-intake@0", "sessions": "wmbus-sessions@0", "downlinks": "wmbus-downlinks"}
 PARTS = tuple(UNITS)
@@ -52,9 +55,10 @@ def figures(database: Database) -> dict[str, Any]:
         "ticks_late": store.one(database, "select count(*) from meter m left join gateway g on g.name = m.gateway where m.due < %s"
                                           " and (g.name is null or g.until > m.due)", (time.time() - 60,)),
         "commands": store.pairs(database, "select state, count(*) from command group by state order by state"),
+        "ahead": store.one(database, AHEAD),
         "clocks": _rows(database, "select name, (until - extract(epoch from seen))::bigint as ahead from gateway where seen > now()"
                                   f" - interval '{SILENT} seconds' and abs(until - extract(epoch from seen)) > {SILENT}"
-                                  " and gone is null order by name"),
+                                  f" and gone is null order by name limit {MOST}"),
         # (one that goes on behind a gap is asked again and again)
         "asked": _rows(database, "select name, epoch, number + 1 as number from gateway where gone is null and asked is not null"
                                  " and (seen is null or seen <= asked and seen < now() - interval '60 seconds') order by name"),
@@ -98,6 +102,9 @@ def in_words(told: dict[str, Any]) -> Iterator[str]:
                + (f"; the oldest open one for {ages['commands']} s" if {*OPEN, "waiting"} & told["commands"].keys() else ""))
     for it in told["gateways"]:
         yield f"gateway {it['name']} in {it['area']}: " + ("never heard" if it["age"] is None else f"not heard for {it['age']} s")
+    if abs(told["ahead"]) > SILENT:
+        yield (f"most gateways tell a moment {abs(told['ahead'])} s {'ahead' if told['ahead'] > 0 else 'behind'}: look at this server's clock"
+               " first (timedatectl), unless they were cut off and send what they kept; nothing goes that is young by the clock behind")
     for it in told["clocks"]:
         yield f"gateway {it['name']} tells a moment {abs(it['ahead'])} s " + (
             "ahead: its clock is wrong" if it["ahead"] > 0 else "behind: its clock is wrong, or it was cut off and sends what it kept")
