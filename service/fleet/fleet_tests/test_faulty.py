@@ -65,8 +65,10 @@ def test_a_faulty_gateway_is_named(fleet: Fleet, said: list[tuple[int, int, int,
     # (that it was asked is told after a minute)
     fleet.database.execute("update gateway set seen = seen - interval '65 seconds', asked = asked - interval '65 seconds'"
                            " where asked is not null")
-    told = [line for line in in_words(figures(fleet.database)) if fleet.gateway in line and good not in line and "never heard" not in line]
+    all_told = [*in_words(figures(fleet.database))]
+    told = [line for line in all_told if fleet.gateway in line and good not in line and "never heard" not in line]
     assert [words in line for line in told] == ([True] if words else []), told
+    assert not [line for line in all_told if "most gateways" in line], "it isn't most of them"
     assert store.pairs(fleet.database, "select gateway, count(*) from inbox group by gateway").get(good) == 3
 
 
