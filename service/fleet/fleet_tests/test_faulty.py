@@ -2,6 +2,7 @@
 twice."""
 from __future__ import annotations
 
+import re
 import threading
 import time
 from pathlib import Path
@@ -11,6 +12,7 @@ import messages
 import psycopg
 import pytest
 from tests.meters import line_of, payload_of
+from tests.processes import run
 from tests.stand_in import stand_in
 from wmbus_fleet import broker, intake, sessions, store
 from wmbus_fleet.config import Gateway, Keep
@@ -70,6 +72,26 @@ def test_a_faulty_gateway_is_named(fleet: Fleet, said: list[tuple[int, int, int,
     assert [words in line for line in told] == ([True] if words else []), told
     assert not [line for line in all_told if "most gateways" in line], "it isn't most of them"
     assert store.pairs(fleet.database, "select gateway, count(*) from inbox group by gateway").get(good) == 3
+
+
+def test_a_gateway_that_was_set_back(fleet: Fleet, tmp_path: Path, caplog: pytest.LogCaptureFixture) -> None:
+    """`status` and the log say by which commands it is taken again; what it then has begins an epoch, of which all is taken."""
+    taking, now = Intake(fleet.config, fleet.database, "test"), int(time.time())
+    taking.take([one_line(fleet.gateway, now - 99, number, moment) for number, moment in ((1, now - 450), (2, now - 440), (1, now - 30))])
+    (told,) = [line for line in in_words(figures(fleet.database)) if line.startswith(f"{fleet.gateway} sent")]
+    (logged,) = [it.getMessage() for it in caplog.records if "taken before" in it.getMessage()]
+    spool, gone = tmp_path / "spool", [f"gateway.{fleet.gateway}.db", f"gateway.{fleet.gateway}.db-wal", "spool/radio.00000007.5.lines"]
+    stays = [f"gateway.{fleet.gateway}2.db", "service.db", "spool/radio2.00000007.5.lines"]
+    for text in (told, logged):
+        spool.mkdir(exist_ok=True)
+        for name in (*gone, *stays):
+            (tmp_path / name).touch()
+        found = re.search("systemctl stop wmbus-gateway wmbus-receiver@RECEIVER; (rm .*); systemctl start wmbus-receiver@RECEIVER wmbus-gateway", text)
+        assert found, text
+        run(["sh", "-c", found[1].replace("RECEIVER", "radio").replace("/var/lib/wmbus", str(tmp_path))])
+        assert sorted(str(it.relative_to(tmp_path)) for it in tmp_path.rglob("*") if it.is_file()) == sorted(stays)
+    taking.take([one_line(fleet.gateway, now, 1, now)])
+    assert fleet.fence() == (now, 1)
 
 
 def test_a_gateway_that_isnt_known(fleet: Fleet) -> None:

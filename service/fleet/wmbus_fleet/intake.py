@@ -25,6 +25,9 @@ log = logging.getLogger("wmbus")
 PREFETCH, MOST = 800, 4000
 LOOK, PAUSE = 0.05, 0.5
 SLACK, SET_BACK = 60, "a message of later moments under a number that was taken before (its file or its clock was set back)"
+ANEW = ("; where that goes on nothing that it hears is taken until it begins anew. On its machine: systemctl stop wmbus-gateway"
+        " wmbus-receiver@RECEIVER; rm /var/lib/wmbus/gateway.{}.db* /var/lib/wmbus/spool/RECEIVER.*.lines; systemctl start"
+        " wmbus-receiver@RECEIVER wmbus-gateway")
 # a gateway is asked again where nothing came of it
 ASKED_SECONDS = 2
 
@@ -117,6 +120,11 @@ def oddities(fences: Mapping[str, Fence], messages: Sequence[Message], answers: 
     return +found
 
 
+def remedy_of(gateway: str, what: str) -> str:
+    """What to do about what a gateway says, where that isn't just left."""
+    return ANEW.format(gateway) if what == SET_BACK else ""
+
+
 def put_oddities(database: Database, found: Mapping[tuple[str, str], int]) -> None:
     """Counts them on, and says once what is new."""
     for (gateway, what), times in sorted(found.items()):
@@ -124,7 +132,7 @@ def put_oddities(database: Database, found: Mapping[tuple[str, str], int]) -> No
                                     " oddity.times + excluded.times, last_made = excluded.last_made returning times",
                           (gateway, what, times, time.time()))
         if count == times:
-            log.warning("%s sent %s, which is left (`wmbus-fleet status` counts them)", gateway, what)
+            log.warning("%s sent %s, which is left (`wmbus-fleet status` counts them)%s", gateway, what, remedy_of(gateway, what))
 
 
 def put_lines(config: Config, database: Database, taken: Sequence[Message]) -> int:

@@ -10,6 +10,7 @@ from psycopg.rows import dict_row
 from wmbus_service.commands import OPEN
 
 from . import store
+from .intake import remedy_of
 from .store import Database
 
 LAST, MOST = 10, 50
@@ -113,7 +114,7 @@ def in_words(told: dict[str, Any]) -> Iterator[str]:
     for it in told["asked"]:
         yield f"gateway {it['name']} was asked for message {it['number']} of epoch {it['epoch']} and hasn't sent it"
     for it in told["oddities"]:
-        yield f"{it['gateway']} sent {it['times']} times {it['what']}, which is left"
+        yield f"{it['gateway']} sent {it['times']} times {it['what']}, which is left{remedy_of(it['gateway'], it['what'])}"
     for it in told["missing"]:
         yield f"gateway {it['gateway']} began a new epoch behind message {it['number']} of {it['epoch']}: its later ones may be gone"
     for it in told["downlinks_missed"]:
