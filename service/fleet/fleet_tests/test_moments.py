@@ -1013,6 +1013,34 @@ def test_two_gateways_in_the_same_moment(fleet: Fleet, tmp_path: Path, monkeypat
         stopping.cancel()
 
 
+def test_two_gateways_within_a_millisecond(fleet: Fleet, tmp_path: Path, monkeypatch: pytest.MonkeyPatch) -> None:
+    """Of two that both were told that nobody listens one alone is taken. The broker itself takes the second one as well, and tells of one that
+    listens."""
+    service, ending, consume, taken = ServiceConfig(tmp_path / "service", receivers={"radio": Receiver()}), Ending(), broker.consume, []
+    prepare_folder(service.folder)
+    ending.set()
+    with broker.connected(fleet.config.broker) as first, broker.connected(fleet.config.broker) as second, \
+            closing(open_gateway(tmp_path / "gateway.db", time.time())) as database:
+        agent = Agent(fleet.config, Gateway(fleet.gateway, fleet.area, "radio"), service, database)
+
+        def serve(connection: Any) -> int:
+            try:
+                agent._serve(connection, ending)
+                taken.append(connection)
+            except Trouble as trouble:
+                assert "another one with this name" in str(trouble)
+            return len(taken)
+
+        def consumed(*words: Any) -> None:
+            monkeypatch.setattr(broker, "consume", consume)
+            serve(second)
+            consume(*words)
+        monkeypatch.setattr(broker, "consume", consumed)
+        assert serve(first) == 1
+        taken[0].close()
+        until(lambda: serve(second if taken[0] is first else first) == 2)
+
+
 @pytest.mark.parametrize("words", [
     ["gateways", "north", "\udcff"], ["commands", "\udcff"], ["command", "--cancel", "\udcff"], ["rekey", 16 * "0"]])
 def test_words_that_are_no_text(fleet: Fleet, tmp_path: Path, monkeypatch: pytest.MonkeyPatch, capsys: pytest.CaptureFixture[str],

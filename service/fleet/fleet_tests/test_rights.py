@@ -74,6 +74,7 @@ def test_a_gateway_has_its_own_queue_and_name_alone(fleet: Fleet, tmp_path: Path
         "its own name": published(broker.EXCHANGE, broker.up_key(area, own)),
         "its own queue": lambda channel: next(channel.consume(broker.gateway_queue(own), inactivity_timeout=0.1)),
         "making its queue": lambda channel: broker.declare_gateway(channel, own),
+        "holding its name": lambda channel: channel.queue_declare(f"{broker.gateway_queue(own)}.held", exclusive=True),
     }
     forbidden: dict[str, Callable[[Any], object]] = {
         "another's name": published(broker.EXCHANGE, broker.up_key(area, other)),
@@ -86,6 +87,7 @@ def test_a_gateway_has_its_own_queue_and_name_alone(fleet: Fleet, tmp_path: Path
         "reading an area": lambda channel: next(channel.consume(broker.area_queue(area), inactivity_timeout=1)),
         "binding its queue": lambda channel: channel.queue_bind(broker.gateway_queue(own), broker.EXCHANGE, "up.#"),
         "a queue of its own": lambda channel: channel.queue_declare("", exclusive=True),
+        "holding another's name": lambda channel: channel.queue_declare(f"{queue}.held", exclusive=True),
         "emptying": lambda channel: channel.queue_purge(queue),
         "deleting": lambda channel: channel.queue_delete(queue),
         "deleting the exchange": lambda channel: channel.exchange_delete(broker.EXCHANGE),

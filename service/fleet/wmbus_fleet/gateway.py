@@ -244,8 +244,9 @@ class Agent:
     def _serve(self, connection: Any, ending: Ending) -> None:
         """Goes on as long as the connection stands."""
         channel = broker.opened(connection)
-        is_taken = broker.declare_gateway(channel, self.told.name)
-        # (two that come in the same moment, as behind a start of the broker, don't ask in the same one again)
+        is_taken = broker.declare_gateway(channel, self.told.name) or not broker.hold_gateway(connection, self.told.name)
+        # (one of an earlier release doesn't hold it: two that come in the same moment, as behind a start of the broker, don't ask in the same
+        # one again)
         ending.wait(random.uniform(0, PAUSE))
         if is_taken or broker.declare_gateway(channel, self.told.name):
             # (both would number messages of their own under one name, and of each number one is taken)
