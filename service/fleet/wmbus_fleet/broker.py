@@ -38,7 +38,7 @@ def connected(told: Broker) -> Iterator[Any]:
     """A connection to one of the broker's nodes, any that answers, which ends with the block."""
     nodes = told.nodes()
     if not nodes:
-        raise Trouble("broker.host", "it names no node")
+        raise Trouble("broker.host", "it names no node", "write the name by which this machine reaches the broker")
     try:
         with within(PATIENCE):
             connection = pika.BlockingConnection([_parameters(told, *node) for node in random.sample(nodes, len(nodes))])
