@@ -919,6 +919,9 @@ def test_a_servers_clock_that_is_far_ahead(fleet: Fleet, caplog: pytest.LogCaptu
         retaining.let_go(now + 400 * DAY)
     assert readings_left(fleet) == [2, 3]
     assert len([it for it in caplog.records if "400 days" in it.getMessage() and "clock" in it.getMessage()]) == 1
+    for _ in range(3):
+        assert not retaining.let_go(now - 30 * DAY) and readings_left(fleet) == [2, 3]
+    assert len([it for it in caplog.records if "30 days behind" in it.getMessage() and "clock" in it.getMessage()]) == 1
     fleet.database.execute("update gateway set until = until - %s where until < %s", (int(400 * DAY), now))
     assert not retaining.let_go(now) and readings_left(fleet) == [2, 3], "gateways' clocks that are behind let nothing go"
     assert metrics.take(fleet.config).gauges["gateways_clock_seconds"] == pytest.approx(-400 * DAY, abs=LIMIT)

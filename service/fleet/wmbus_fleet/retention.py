@@ -32,7 +32,8 @@ class Retention:
 
     def __init__(self, database: Database, keep: Keep) -> None:
         self.database, self.keep = database, keep
-        self.is_ahead = False
+        # what was said last of this machine's clock
+        self.apart = ""
 
     def let_go(self, now: float) -> bool:
         """One step; whether there is more. A line that somebody else lets go is passed over."""
@@ -65,8 +66,9 @@ class Retention:
             self.database.execute(f"delete from {table} where {key} in (select {key} from {table} order by {order} desc offset %s)", (most,))
 
     def _tell(self, ahead: float) -> None:
-        """Says once that this machine's clock is far ahead."""
-        if ahead > DAY and not self.is_ahead:
-            log.error("this server's clock is %d days ahead of most gateways' clocks: set it right (timedatectl); what is kept for some days"
-                      " goes by theirs meanwhile", ahead // DAY)
-        self.is_ahead = ahead > DAY
+        """Says once that this machine's clock or most gateways' clocks are far from right."""
+        apart = "ahead of" if ahead > DAY else "behind" if ahead < -DAY else ""
+        if apart and apart != self.apart:
+            log.error("this server's clock is %d days %s most gateways' clocks: set right which is wrong (timedatectl); what is kept for some"
+                      " days goes by the one that is behind meanwhile", round(abs(ahead) / DAY), apart)
+        self.apart = apart
