@@ -25,7 +25,7 @@ log = logging.getLogger("wmbus")
 PREFETCH, MOST = 800, 4000
 LOOK, PAUSE = 0.05, 0.5
 SLACK, SET_BACK = 60, "a message of later moments under a number that was taken before (its file or its clock was set back)"
-ANEW = ("; where that goes on nothing that it hears is taken until it begins anew. On its machine: systemctl stop wmbus-gateway"
+ANEW = ("; where that goes on nothing that it hears is taken until it begins anew. On its machine, as root: systemctl stop wmbus-gateway"
         " wmbus-receiver@RECEIVER; rm /var/lib/wmbus/gateway.{}.db* /var/lib/wmbus/spool/RECEIVER.*.lines; systemctl start"
         " wmbus-receiver@RECEIVER wmbus-gateway")
 # a gateway is asked again where nothing came of it
