@@ -86,7 +86,8 @@ def test_a_gateway_that_was_set_back(fleet: Fleet, tmp_path: Path, caplog: pytes
         spool.mkdir(exist_ok=True)
         for name in (*gone, *stays):
             (tmp_path / name).touch()
-        found = re.search("systemctl stop wmbus-gateway wmbus-receiver@RECEIVER; (rm .*); systemctl start wmbus-receiver@RECEIVER wmbus-gateway", text)
+        found = re.search("as root: systemctl stop wmbus-gateway wmbus-receiver@RECEIVER; (rm .*); systemctl start"
+                          " wmbus-receiver@RECEIVER wmbus-gateway$", text)
         assert found, text
         run(["sh", "-c", found[1].replace("RECEIVER", "radio").replace("/var/lib/wmbus", str(tmp_path))])
         assert sorted(str(it.relative_to(tmp_path)) for it in tmp_path.rglob("*") if it.is_file()) == sorted(stays)
