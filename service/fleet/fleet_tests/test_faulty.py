@@ -2,6 +2,7 @@
 twice."""
 from __future__ import annotations
 
+import re
 import threading
 import time
 from pathlib import Path
@@ -11,13 +12,14 @@ import messages
 import psycopg
 import pytest
 from tests.meters import line_of, payload_of
+from tests.processes import run
 from tests.stand_in import stand_in
 from wmbus_fleet import broker, intake, sessions, store
 from wmbus_fleet.config import Gateway, Keep
 from wmbus_fleet.gateway import Agent, open_gateway
 from wmbus_fleet.intake import Intake
 from wmbus_fleet.messages import Again, Message
-from wmbus_fleet.retention import let_go
+from wmbus_fleet.retention import Retention
 from wmbus_fleet.status import figures, in_words
 from wmbus_service.config import Config as ServiceConfig
 from wmbus_service.config import Receiver
@@ -65,9 +67,32 @@ def test_a_faulty_gateway_is_named(fleet: Fleet, said: list[tuple[int, int, int,
     # (that it was asked is told after a minute)
     fleet.database.execute("update gateway set seen = seen - interval '65 seconds', asked = asked - interval '65 seconds'"
                            " where asked is not null")
-    told = [line for line in in_words(figures(fleet.database)) if fleet.gateway in line and good not in line and "never heard" not in line]
+    all_told = [*in_words(figures(fleet.database))]
+    told = [line for line in all_told if fleet.gateway in line and good not in line and "never heard" not in line]
     assert [words in line for line in told] == ([True] if words else []), told
+    assert not [line for line in all_told if "most gateways" in line], "it isn't most of them"
     assert store.pairs(fleet.database, "select gateway, count(*) from inbox group by gateway").get(good) == 3
+
+
+def test_a_gateway_that_was_set_back(fleet: Fleet, tmp_path: Path, caplog: pytest.LogCaptureFixture) -> None:
+    """`status` and the log say by which commands it is taken again; what it then has begins an epoch, of which all is taken."""
+    taking, now = Intake(fleet.config, fleet.database, "test"), int(time.time())
+    taking.take([one_line(fleet.gateway, now - 99, number, moment) for number, moment in ((1, now - 450), (2, now - 440), (1, now - 30))])
+    (told,) = [line for line in in_words(figures(fleet.database)) if line.startswith(f"{fleet.gateway} sent")]
+    (logged,) = [it.getMessage() for it in caplog.records if "taken before" in it.getMessage()]
+    spool, gone = tmp_path / "spool", [f"gateway.{fleet.gateway}.db", f"gateway.{fleet.gateway}.db-wal", "spool/radio.00000007.5.lines"]
+    stays = [f"gateway.{fleet.gateway}2.db", "service.db", "spool/radio2.00000007.5.lines"]
+    for text in (told, logged):
+        spool.mkdir(exist_ok=True)
+        for name in (*gone, *stays):
+            (tmp_path / name).touch()
+        found = re.search("as root: systemctl stop wmbus-gateway wmbus-receiver@RECEIVER; (rm .*); systemctl start"
+                          " wmbus-receiver@RECEIVER wmbus-gateway$", text)
+        assert found, text
+        run(["sh", "-c", found[1].replace("RECEIVER", "radio").replace("/var/lib/wmbus", str(tmp_path))])
+        assert sorted(str(it.relative_to(tmp_path)) for it in tmp_path.rglob("*") if it.is_file()) == sorted(stays)
+    taking.take([one_line(fleet.gateway, now, 1, now)])
+    assert fleet.fence() == (now, 1)
 
 
 def test_a_gateway_that_isnt_known(fleet: Fleet) -> None:
@@ -194,7 +219,8 @@ def test_what_is_kept_no_longer(fleet: Fleet, keep: Keep, lines: list[int], read
                     [(number, *row) for number, row in enumerate(made, 1)])
     store.copy_rows(fleet.database, "reading (line, address, gateway, counter, moment, payload, fault, more, records, made)",
                     [(number, "m", "g", number, 0, "00", None, False, "[]", now - days * day) for number, days in ((1, 6), (2, 4), (3, 1))])
-    assert let_go(fleet.database, keep, now) is (len(lines) + len(readings) < 7)
-    assert not let_go(fleet.database, keep, now)
+    fleet.tell(now)
+    assert Retention(fleet.database, keep).let_go(now) is (len(lines) + len(readings) < 7)
+    assert not Retention(fleet.database, keep).let_go(now)
     assert store.one(fleet.database, "select array_agg(number order by number) from line") == lines
     assert store.one(fleet.database, "select array_agg(line order by line) from reading") == readings

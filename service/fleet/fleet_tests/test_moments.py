@@ -14,6 +14,7 @@ import subprocess
 import threading
 import time
 import tracemalloc
+import urllib.request
 from collections.abc import Callable
 from configparser import ConfigParser
 from contextlib import closing
@@ -41,7 +42,7 @@ from wmbus_fleet.demo import Demo
 from wmbus_fleet.gateway import Agent, arm, open_gateway
 from wmbus_fleet.intake import Consuming, Intake
 from wmbus_fleet.messages import LAST, Again, Down, Message, down_body, frames_in, lines_body, read_lines
-from wmbus_fleet.retention import let_go
+from wmbus_fleet.retention import Retention
 from wmbus_fleet.status import figures, in_words
 from wmbus_fleet.view.app import create_app
 from wmbus_service import store as service_store
@@ -145,6 +146,7 @@ def test_what_is_kept_no_longer_goes_while_lines_come(fleet: Fleet, monkeypatch:
             ending.set()
         return 1
     monkeypatch.setattr(sessions.Sessions, "turn", turn)
+    fleet.tell(time.time())
     store.copy_rows(fleet.database, "line (number, address, text, made)", [(1, "m", "A 1 00", time.time() - 9 * DAY)])
     sessions.run(replace(fleet.config, interval=0.01), ending)
     assert store.one(fleet.database, "select count(*) from line") == 0
@@ -252,6 +254,21 @@ def test_what_fails_again_is_said_once(house: House, monkeypatch: pytest.MonkeyP
     assert len([it for it in caplog.records if "full" in it.getMessage()]) == 1
 
 
+def test_a_broker_that_doesnt_come_back(house: House, monkeypatch: pytest.MonkeyPatch, caplog: pytest.LogCaptureFixture) -> None:
+    """What waits for it stays, and the gateway's log says each day how much it is, and since when."""
+    clock = NOW
+    monkeypatch.setattr(gateway, "time", SimpleNamespace(time=lambda: clock, monotonic=lambda: clock))
+    house.agent.config = Config(broker=Broker(port=1))
+    house.database.execute("update message set acknowledged = 0 where number > 1")
+    for hours in range(60):
+        clock, ending = NOW + 3600 * hours + 20, Ending()
+        monkeypatch.setattr(house.agent, "number", lambda _now, ending=ending: ending.set())
+        house.agent.run(ending)
+    said = [it.getMessage() for it in caplog.records if "wait for the broker" in it.getMessage()]
+    assert [re.findall("[0-9]+", it)[1:] for it in said] == [["2", "1"], ["2", "25"], ["2", "49"]]
+    assert len(house.messages()) == 3
+
+
 def test_a_gateways_file_that_its_disk_damages(house: House, monkeypatch: pytest.MonkeyPatch, caplog: pytest.LogCaptureFixture) -> None:
     """While it works: its log says what to do about it, as where it can't begin."""
     ending, fault = Ending(), sqlite3.DatabaseError("database disk image is malformed")
@@ -318,23 +335,32 @@ def test_what_is_too_large_costs_no_memory() -> None:
     assert most < len(body)
 
 
-def test_a_batch_of_many_areas(fleet: Fleet, monkeypatch: pytest.MonkeyPatch) -> None:
-    """Of each area the broker gives as many messages as an intake has in hand; no batch has more than that, since the program takes 131,072
-    lines at most (docs/FORMATS.md, "Exit statuses")."""
-    monkeypatch.setattr("wmbus_fleet.intake.PREFETCH", 3)
+@pytest.mark.parametrize("most, given", [(4, 4), (1, 2)])
+def test_a_batch_of_many_areas(fleet: Fleet, monkeypatch: pytest.MonkeyPatch, most: int, given: int) -> None:
+    """All areas together give an intake no more messages than it has in hand, or one each where there are more areas, however many wait of
+    each; no batch has more either, since the program takes 131,072 lines at most (docs/FORMATS.md, "Exit statuses"). It doesn't wait for more
+    of an area that gives none before some are acknowledged."""
+    monkeypatch.setattr("wmbus_fleet.intake.PREFETCH", most)
     areas = [fleet.area, f"{fleet.area}2"]
     commands.add_area(fleet.config, fleet.database, areas[1])
     with broker.connected(fleet.config.broker) as connection:
-        consuming, channel = Consuming(Intake(fleet.config, fleet.database, "test"), connection, areas), broker.opened(connection)
-        for area in areas:
-            for number in (1, 2, 3):
-                broker.publish(channel, broker.EXCHANGE, broker.up_key(area, "gw"), lines_body(5, number, 9, b""))
-
-        def are_given() -> bool:
+        publishing = broker.opened(connection)
+        for area, numbers in zip(areas, ((1, 2, 3, 4, 5, 6), (1, 2)), strict=True):
+            for number in numbers:
+                broker.publish(publishing, broker.EXCHANGE, broker.up_key(area, f"{fleet.gateway}{area[-1]}"), lines_body(5, number, 9, b""))
+        told = replace(fleet.config, interval=3600.0)
+        consuming = Consuming(Intake(told, fleet.database, "test"), connection, areas)
+        limit = time.monotonic() + 2
+        while time.monotonic() < limit:
             connection.process_data_events(0.05)
-            return len(consuming.held) == 6
-        until(are_given)
-        assert [consuming.turn(), consuming.turn()] == [3, 3]
+        assert len(consuming.held) == given
+        counts: list[int] = []
+
+        def are_taken() -> bool:
+            counts.append(consuming.turn())
+            return sum(counts) == 8
+        until(are_taken)
+    assert max(counts) <= most
 
 
 def test_a_number_that_no_message_has(fleet: Fleet) -> None:
@@ -516,6 +542,23 @@ def test_ticks_that_wait_for_a_gateway_arent_late(fleet: Fleet) -> None:
     assert late() == ["1 ticks are late: no sessions run, or too few"]
 
 
+def test_how_long_something_waits(fleet: Fleet) -> None:
+    """Of lines, downlinks and commands the oldest one tells, in `status` and in the metrics; what is done waits no more."""
+    now, meter = time.time(), fleet.meters[0].name
+    store.copy_rows(fleet.database, "inbox (address, gateway, epoch, message, place, text)",
+                    [(meter, fleet.gateway, 1, 1, place, f"A {int(now) - age} 00") for place, age in ((1, 300), (2, 100))])
+    store.copy_rows(fleet.database, "outbox (gateway, address, down, frame, command, made, sent)",
+                    [("gw", meter, 1, "01", 1, now - 900, now), ("gw", meter, 2, "02", 1, now - 200, None)])
+    store.copy_rows(fleet.database, "command (id, address, kind, payload, state, made, changed)",
+                    [(state, meter, "send", "01", state, now - age, now) for state, age in (("confirmed", 900), ("sent", 400), ("waiting", 5))])
+    said = [re.sub(r"(?<=for )(\d+)(?= s)", lambda found: str(int(found[1]) // 100 * 100), line) for line in in_words(figures(fleet.database))]
+    assert "2 lines wait for a session, the oldest for 300 s; 1 downlinks for the broker, the oldest for 200 s" in said
+    assert "commands: 1 confirmed, 1 sent, 1 waiting; the oldest open one for 400 s" in said
+    gauges = metrics.take(fleet.config).gauges
+    for name, least in (("lag_seconds", 300), ("downlinks_waiting_seconds", 200), ("commands_open_seconds", 400)):
+        assert least - 2 <= gauges[name] < least + LIMIT, name
+
+
 def test_late_ticks_of_the_metrics(fleet: Fleet) -> None:
     """They are those that `status` tells of, also over the tables of a release that counted all of them."""
     now = time.time()
@@ -590,8 +633,31 @@ def test_epochs_that_begin_again_and_again(fleet: Fleet) -> None:
     """Of a gateway that loses its disk with each start what is kept is bounded, and the last ones are told."""
     rows = [("gw", epoch, 1, float(epoch)) for epoch in range(10_005)]
     store.copy_rows(fleet.database, "missing (gateway, epoch, number, made)", rows)
-    let_go(fleet.database, Keep(), NOW)
+    Retention(fleet.database, Keep()).let_go(NOW)
     assert fleet.database.execute("select count(*), min(epoch), max(epoch) from missing").fetchone() == (10_000, 5, 10_004)
+
+
+@pytest.mark.parametrize("days, left", [(365, ["c2", "c3", "c4", 3, 4]), (0, ["c1", "c2", "c3", "c4", 1, 2, 3, 4])])
+def test_commands_that_are_done_go_after_a_time(fleet: Fleet, days: int, left: list[object]) -> None:
+    """With their downlinks, and no sooner; what is open stays, however old it is."""
+    fleet.tell(NOW)
+    old, meter = NOW - 366 * DAY, fleet.meters[0].name
+    told = (("confirmed", old), ("waiting", old), ("sent", old), ("expired", NOW - 364 * DAY))
+    store.copy_rows(fleet.database, "command (id, address, kind, payload, state, made, changed)",
+                    [(f"c{place}", meter, "send", "01", state, old, changed) for place, (state, changed) in enumerate(told, 1)])
+    store.copy_rows(fleet.database, "outbox (gateway, address, down, frame, command, made, sent, missed)", [
+        ("gw", meter, 1, "01", 1, old, old, None), ("gw", meter, 2, "02", 1, old, None, "it is too late"),
+        ("gw", meter, 3, "03", 1, old, None, None), ("gw", meter, 4, "04", 1, NOW - 364 * DAY, NOW, None)])
+    Retention(fleet.database, Keep(commands=days)).let_go(NOW)
+    assert [*(ident for (ident,) in fleet.database.execute("select id from command order by id")),
+            *(down for (down,) in fleet.database.execute("select down from outbox order by down"))] == left
+
+
+def test_many_lines_that_were_set_aside(fleet: Fleet) -> None:
+    """What is kept of them is bounded, and the last ones are told."""
+    store.copy_rows(fleet.database, "aside (gateway, text, said, made)", [("gw", "A 1 00", "no", NOW) for _ in range(10_005)])
+    Retention(fleet.database, Keep()).let_go(NOW)
+    assert fleet.database.execute("select count(*), min(id) from aside").fetchone() == (10_000, 6)
 
 
 def test_a_line_that_is_far_too_long() -> None:
@@ -819,10 +885,56 @@ def test_a_downlink_of_a_servers_clock_that_is_set_back(fleet: Fleet) -> None:
 def test_what_was_written_while_a_servers_clock_was_ahead(fleet: Fleet, monkeypatch: pytest.MonkeyPatch) -> None:
     """It holds up nothing that is kept no longer, however much it is."""
     monkeypatch.setattr("wmbus_fleet.retention.STEP", 3)
+    fleet.tell(NOW)
     made = [*[NOW + 900 * DAY] * 4, *[NOW - 9 * DAY] * 5, NOW - DAY]
     store.copy_rows(fleet.database, "line (number, address, text, made)", [(place, "m", "A 1 00", it) for place, it in enumerate(made)])
-    assert [let_go(fleet.database, Keep(), NOW) for _ in range(3)] == [True, True, False]
+    assert [Retention(fleet.database, Keep()).let_go(NOW) for _ in range(3)] == [True, True, False]
     assert store.one(fleet.database, "select array_agg(number order by number) from line") == [0, 1, 2, 3, 9]
+
+
+def put_readings(fleet: Fleet, told: list[tuple[float, float]]) -> None:
+    """Readings that were written at moments of the server's, and told of moments of a gateway's, by their numbers."""
+    store.copy_rows(fleet.database, "reading (line, address, counter, moment, payload, more, records, made)",
+                    [(line, fleet.meters[0].name, line, moment, "", False, "[]", made) for line, (made, moment) in enumerate(told, 1)])
+
+
+def readings_left(fleet: Fleet) -> list[int]:
+    """The numbers of the readings that are there."""
+    return [line for (line,) in fleet.database.execute("select line from reading order by line")]
+
+
+def test_a_servers_clock_that_is_far_ahead(fleet: Fleet, caplog: pytest.LogCaptureFixture) -> None:
+    """It lets no reading go that is young by most gateways' clocks, and none at all while it hears of no gateway, as just behind the moment
+    at which it was set so. That is said once."""
+    now, keep = int(time.time()), Keep(readings=365)
+    put_readings(fleet, [(now - 366 * DAY, now - 366 * DAY), (now - 364 * DAY, now - 364 * DAY), (now - DAY, now - DAY)])
+    retaining = Retention(fleet.database, keep)
+    assert not retaining.let_go(now + 400 * DAY) and readings_left(fleet) == [1, 2, 3]
+    commands.add_gateway(fleet.config, fleet.database, fleet.area, f"{fleet.gateway}2")
+    commands.add_gateway(fleet.config, fleet.database, fleet.area, f"{fleet.gateway}3")
+    untils = {f"{fleet.gateway}": now - 100, f"{fleet.gateway}2": now - 30, f"{fleet.gateway}3": now + 4000 * int(DAY)}
+    for name, until_moment in untils.items():
+        fleet.database.execute("update gateway set until = %s, seen = now() where name = %s", (until_moment, name))
+    for _ in range(3):
+        retaining.let_go(now + 400 * DAY)
+    assert readings_left(fleet) == [2, 3]
+    assert len([it for it in caplog.records if "400 days" in it.getMessage() and "clock" in it.getMessage()]) == 1
+    for _ in range(3):
+        assert not retaining.let_go(now - 30 * DAY) and readings_left(fleet) == [2, 3]
+    assert len([it for it in caplog.records if "30 days behind" in it.getMessage() and "clock" in it.getMessage()]) == 1
+    fleet.database.execute("update gateway set until = until - %s where until < %s", (int(400 * DAY), now))
+    assert not retaining.let_go(now) and readings_left(fleet) == [2, 3], "gateways' clocks that are behind let nothing go"
+    assert metrics.take(fleet.config).gauges["gateways_clock_seconds"] == pytest.approx(-400 * DAY, abs=LIMIT)
+    assert [line for line in in_words(figures(fleet.database)) if "most gateways tell a moment 345600" in line and "s behind" in line]
+
+
+def test_what_was_written_while_a_servers_clock_was_behind(fleet: Fleet) -> None:
+    """As before it had the time, behind a start: a reading that its gateway heard a day ago stays; where that one's clock was wrong the
+    server's alone counts."""
+    fleet.tell(NOW)
+    put_readings(fleet, [(5.0, NOW - DAY), (5.0, NOW - 9 * DAY), (NOW - 9 * DAY, NOW + 4000 * DAY), (NOW - 9 * DAY, 0), (NOW - DAY, 0)])
+    Retention(fleet.database, Keep(readings=7)).let_go(NOW)
+    assert readings_left(fleet) == [1, 5]
 
 
 def test_a_tick_behind_another_gateways_later_line(fleet: Fleet) -> None:
@@ -857,6 +969,32 @@ def test_a_tick_at_which_the_program_fails(fleet: Fleet, monkeypatch: pytest.Mon
     assert store.one(fleet.database, "select count(*) from line where message = 0 and place = 90") == 1
 
 
+@pytest.mark.parametrize("status", [-9, 10])
+def test_a_program_that_is_ended_again_and_again(fleet: Fleet, monkeypatch: pytest.MonkeyPatch, caplog: pytest.LogCaptureFixture, status: int
+                                                 ) -> None:
+    """As where the machine's memory is short: that is said once, as what it is, and counted, and no line is set aside for it, also where it
+    comes while the program is looked at without one that it failed at twice."""
+    meter, ends = fleet.meters[0].name, [*[status] * 9, 101, 101, status]
+    shard = store.one(fleet.database, "select shard_of(%s)", (meter,))
+
+    def run(words: Any, state: str, lines: list[str]) -> Any:
+        if ends:
+            raise ProgramFailed(ends.pop(0), "no")
+        return stand_in(words, state, lines)
+    monkeypatch.setattr(sessions, "run_steps", run)
+    rows = [(meter, fleet.gateway, 1, 1, place, f"A {place} 00") for place in (1, 2, 3)]
+    store.copy_rows(fleet.database, "inbox (address, gateway, epoch, message, place, text)", rows)
+    hearing = sessions.Sessions(fleet.config, fleet.database)
+    assert [hearing.session(shard, NOW) for _ in range(9)] == 9 * [0], "it waits, and doesn't go on at once"
+    said = [it.getMessage() for it in caplog.records]
+    assert len(said) == 1 and "ended from outside" in said[0] and "memory" in said[0]
+    for _ in range(5):
+        hearing.session(shard, NOW)
+    assert [place for (place,) in fleet.database.execute("select place from line order by number")] == [1, 2, 3]
+    assert store.one(fleet.database, "select count(*) from aside") == 0
+    assert metrics.take(fleet.config).counters["ended"] == 10.0
+
+
 def test_two_gateways_in_the_same_moment(fleet: Fleet, tmp_path: Path, monkeypatch: pytest.MonkeyPatch) -> None:
     """As behind a start of the broker: another one of the name that listens just behind the question whether there is one is seen."""
     service, ending = ServiceConfig(tmp_path / "service", receivers={"radio": Receiver()}), Ending()
@@ -876,6 +1014,34 @@ def test_two_gateways_in_the_same_moment(fleet: Fleet, tmp_path: Path, monkeypat
         with pytest.raises(Trouble, match="another one with this name"):
             Agent(fleet.config, Gateway(fleet.gateway, fleet.area, "radio"), service, database)._serve(second, ending)
         stopping.cancel()
+
+
+def test_two_gateways_within_a_millisecond(fleet: Fleet, tmp_path: Path, monkeypatch: pytest.MonkeyPatch) -> None:
+    """Of two that both were told that nobody listens one alone is taken. The broker itself takes the second one as well, and tells of one that
+    listens."""
+    service, ending, consume, taken = ServiceConfig(tmp_path / "service", receivers={"radio": Receiver()}), Ending(), broker.consume, []
+    prepare_folder(service.folder)
+    ending.set()
+    with broker.connected(fleet.config.broker) as first, broker.connected(fleet.config.broker) as second, \
+            closing(open_gateway(tmp_path / "gateway.db", time.time())) as database:
+        agent = Agent(fleet.config, Gateway(fleet.gateway, fleet.area, "radio"), service, database)
+
+        def serve(connection: Any) -> int:
+            try:
+                agent._serve(connection, ending)
+                taken.append(connection)
+            except Trouble as trouble:
+                assert "another one with this name" in str(trouble)
+            return len(taken)
+
+        def consumed(*words: Any) -> None:
+            monkeypatch.setattr(broker, "consume", consume)
+            serve(second)
+            consume(*words)
+        monkeypatch.setattr(broker, "consume", consumed)
+        assert serve(first) == 1
+        taken[0].close()
+        until(lambda: serve(second if taken[0] is first else first) == 2)
 
 
 @pytest.mark.parametrize("words", [
@@ -1092,6 +1258,34 @@ def test_where_no_metrics_can_be(told: Metrics) -> None:
         metrics.run(Config(metrics=told), Ending())
 
 
+def test_silent_and_slow_connections_to_the_metrics(monkeypatch: pytest.MonkeyPatch) -> None:
+    """Who connects and says nothing, or a byte now and then, as anybody may who reaches the port, holds nothing for longer than a moment, and
+    however many do, the metrics are had meanwhile."""
+    monkeypatch.setattr(metrics, "SILENCE", 1.0)
+    monkeypatch.setattr(metrics, "take", lambda _config: metrics.Taken(counters={"heard": 5.0}))
+    ending, port = Ending(), own_servers.free_port()
+    serving = threading.Thread(target=metrics.run, args=(Config(metrics=Metrics(port=port)), ending))
+    serving.start()
+    try:
+        until(lambda: own_servers._listens(port))
+        threads = threading.active_count()
+        slow, *silent = [socket.create_connection(("127.0.0.1", port)) for _ in range(100)]
+        with closing(urllib.request.urlopen(f"http://127.0.0.1:{port}/metrics", timeout=LIMIT)) as answer:
+            assert b"wmbus_fleet_heard_total 5.0" in answer.read()
+        assert threading.active_count() <= threads + 40
+        with pytest.raises(ConnectionError):
+            for _ in range(20 * LIMIT):
+                slow.send(b"G")
+                time.sleep(0.05)
+        for opened in silent:
+            opened.settimeout(LIMIT)
+            assert opened.recv(1) == b""
+        until(lambda: threading.active_count() <= threads)
+    finally:
+        ending.set()
+        serving.join(LIMIT)
+
+
 def test_what_metrics_lack_is_said_once(fleet: Fleet, monkeypatch: pytest.MonkeyPatch, caplog: pytest.LogCaptureFixture) -> None:
     """And anew once it was there meanwhile: they are taken four times a minute, over a weekend without a database too."""
     ending, turns, nowhere = Ending(), 0, Broker(port=1)
@@ -1107,7 +1301,7 @@ def test_what_metrics_lack_is_said_once(fleet: Fleet, monkeypatch: pytest.Monkey
         return take(fleet.config if turns in (5, 6) else replace(fleet.config, broker=nowhere))
     monkeypatch.setattr(metrics, "take", taken)
     monkeypatch.setattr(metrics, "INTERVAL", 0.01)
-    monkeypatch.setattr(metrics, "start_http_server", lambda *_, **__: None)
+    monkeypatch.setattr(metrics, "serve", lambda *_: None)
     metrics.run(fleet.config, ending)
     said = [it.getMessage() for it in caplog.records if it.getMessage().startswith("the metrics: ")]
     assert ["no database" in it for it in said] == [True, False, False] and all("port 1" in it for it in said[1:])

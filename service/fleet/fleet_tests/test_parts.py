@@ -198,6 +198,10 @@ class Fleet:
         assert row
         return row[0], row[1]
 
+    def tell(self, moment: float) -> None:
+        """The gateway was just heard, and told of this moment."""
+        self.database.execute("update gateway set until = %s, seen = now()", (int(moment),))
+
 
 @pytest.fixture
 def fleet(both: Both, tmp_path: Path, request: pytest.FixtureRequest) -> Iterator[Fleet]:
@@ -310,9 +314,9 @@ def test_a_line_that_another_process_had_meanwhile(fleet: Fleet, monkeypatch: py
     assert [message for (message,) in fleet.database.execute("select message from line where gateway is not null order by number")] == [2, 3, 4, 6]
 
 
-@pytest.mark.parametrize("status", [-15, 10])
+@pytest.mark.parametrize("status", [-15, 10, 101])
 def test_a_program_that_fails_once(fleet: Fleet, monkeypatch: pytest.MonkeyPatch, status: int) -> None:
-    """Where it is ended from outside, or lacks memory for a moment, its only line is heard again."""
+    """Where it is ended from outside, lacks memory, or fails otherwise for a moment, its only line is heard again."""
     meter, failures = fleet.meters[0], [status]
 
     def failing(words: Any, state: str, heard: list[str]) -> Any:
@@ -322,7 +326,7 @@ def test_a_program_that_fails_once(fleet: Fleet, monkeypatch: pytest.MonkeyPatch
     monkeypatch.setattr(sessions, "run_steps", failing)
     store.copy_rows(fleet.database, "inbox (address, gateway, epoch, message, place, text)", [(meter.name, fleet.gateway, 1, 1, 1, "A 1 00")])
     hearing = sessions.Sessions(fleet.config, fleet.database)
-    assert [hearing.turn(NOW), hearing.turn(NOW), hearing.turn(NOW)] == [int(status > 0), 1, 0]
+    assert [hearing.turn(NOW), hearing.turn(NOW), hearing.turn(NOW)] == [int(status == 101), 1, 0]
     assert store.one(fleet.database, "select count(*) from aside") == 0
 
 

@@ -4,6 +4,7 @@ from __future__ import annotations
 import io
 import os
 import random
+import re
 import subprocess
 
 from collections.abc import Callable, Iterator
@@ -48,7 +49,7 @@ def as_gateway(fleet: Fleet, folder: Path, name: str) -> Broker:
     """RabbitMQ as a gateway reaches it, by the files that were made for it."""
     place = folder / "files" / name
     told = read_config(place / gateways.SETTINGS).broker
-    return replace(told, password_file=str(place / gateways.PASSWORD), host=fleet.config.broker.host)
+    return replace(told, password_file=str(place / gateways.PASSWORD), host=fleet.config.broker.host, port=fleet.config.broker.port, tls=False)
 
 
 def refused(told: Broker, work: Callable[[Any], object]) -> str | None:
@@ -74,6 +75,7 @@ def test_a_gateway_has_its_own_queue_and_name_alone(fleet: Fleet, tmp_path: Path
         "its own name": published(broker.EXCHANGE, broker.up_key(area, own)),
         "its own queue": lambda channel: next(channel.consume(broker.gateway_queue(own), inactivity_timeout=0.1)),
         "making its queue": lambda channel: broker.declare_gateway(channel, own),
+        "holding its name": lambda channel: channel.queue_declare(f"{broker.gateway_queue(own)}.held", exclusive=True),
     }
     forbidden: dict[str, Callable[[Any], object]] = {
         "another's name": published(broker.EXCHANGE, broker.up_key(area, other)),
@@ -86,6 +88,7 @@ def test_a_gateway_has_its_own_queue_and_name_alone(fleet: Fleet, tmp_path: Path
         "reading an area": lambda channel: next(channel.consume(broker.area_queue(area), inactivity_timeout=1)),
         "binding its queue": lambda channel: channel.queue_bind(broker.gateway_queue(own), broker.EXCHANGE, "up.#"),
         "a queue of its own": lambda channel: channel.queue_declare("", exclusive=True),
+        "holding another's name": lambda channel: channel.queue_declare(f"{queue}.held", exclusive=True),
         "emptying": lambda channel: channel.queue_purge(queue),
         "deleting": lambda channel: channel.queue_delete(queue),
         "deleting the exchange": lambda channel: channel.exchange_delete(broker.EXCHANGE),
@@ -149,6 +152,23 @@ def test_its_files_are_its_owners(fleet: Fleet, tmp_path: Path) -> None:
     assert not any("password" in line and "_file" not in line for line in (place / "fleet.toml").read_text().splitlines())
     # (RabbitMQ's documentation has this password with this salt)
     assert administration.hash_of("test12", bytes.fromhex("908dc60a")) == "kI3GCqW5JLMJa4iX1lo7X4D6XbYqlLgxIs30+P6tENUV2POR"
+
+
+@pytest.mark.parametrize("lines, host, port, tls, authority", [
+    ("", "", 5671, True, ""), ('host = "localhost 127.0.0.2"\nport = 5673', "", 5671, True, ""),
+    ('host = "node1 node2"\nport = 5673\ntls = true\nauthority = "/a.pem"', "node1 node2", 5673, True, "/a.pem"),
+    ('host = "127.0.0.1"\n[broker.outside]\nhost = "broker.example"\nauthority = "/a.pem"', "broker.example", 5671, True, "/a.pem"),
+    ('host = "node1"\ntls = true\n[broker.outside]\nhost = "10.0.0.1"\nport = 5672\ntls = false', "10.0.0.1", 5672, False, "")])
+def test_where_a_gateway_finds_the_broker(tmp_path: Path, lines: str, host: str, port: int, tls: bool, authority: str) -> None:
+    """As the configuration says for those outside, else as the server does; of one that has it on its own machine none of that is a
+    gateway's, which says that the name lacks."""
+    (tmp_path / "fleet.toml").write_text(f"[broker]\n{lines}\n")
+    gateways.put_files(read_config(tmp_path / "fleet.toml"), tmp_path, "north", "gw1")
+    told = read_config(tmp_path / "gw1" / gateways.SETTINGS).broker
+    assert (told.host, told.port, told.tls, told.authority, told.user) == (host, port, tls, authority, "gw1")
+    if not host:
+        with pytest.raises(Trouble, match="broker.host.*names no node.*name by which"), broker.connected(told):
+            pass
 
 
 def certificate(folder: Path, name: str, signer: tuple[Any, Any] | None) -> tuple[Any, Any]:
@@ -222,13 +242,14 @@ def test_the_words(fleet: Fleet, tmp_path: Path, capsys: pytest.CaptureFixture[s
     names.write_text("nothing\n")
     assert "line 1" in said("commission", "/dev/null", "--names", str(names))[1] or said("commission", "/dev/null")[0] == 1
     assert said("gateways", area, "new1")[0] == 1 and "--files" in said("gateways", area, "new1")[1]
-    assert said("gateways", area, "new1", "--files", str(tmp_path / "out")) == (0, "1 new gateways")
+    status, told = said("gateways", area, "new1", "--files", str(tmp_path / "out"))
+    assert status == 0 and re.fullmatch("1 new gateways\n.*broker.outside.*", told), told
     assert "management" in said("gateways", area, "new2", "--files", str(tmp_path / "out"), config=bare)[1]
     assert said("gateways", area, "new2", config=bare) == (0, "1 new gateways")
     assert said("remove", "new1", "new2")[0] == 0
     assert "no such gateway" in said("remove", "nobody")[1]
-    told = said("status", "--gateways")[1].splitlines()
-    assert f"gateway new1 in {area}: taken away, never heard" in told and f"gateway {area}-a in {area}: never heard" in told
+    each = said("status", "--gateways")[1].splitlines()
+    assert f"gateway new1 in {area}: taken away, never heard" in each and f"gateway {area}-a in {area}: never heard" in each
     assert "new1" not in said("status")[1] and f"area {area}: 3 gateways, 3 of them silent" in said("status")[1]
     assert "no sessions works: systemctl start" in said("status")[1]
     assert said("command", meters[0].name, "0102", "--id", "c1") == (0, "c1")

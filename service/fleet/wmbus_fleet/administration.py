@@ -53,8 +53,9 @@ class Administration:
 
     def put_rights(self, area: str, gateway: str) -> None:
         """Lets a gateway read its own queue, and publish under its own name in its area; nothing else."""
-        queue = f"^{re.escape(broker.gateway_queue(gateway))}$"
-        self._ask("PUT", f"permissions/{HOST}/{quote(gateway)}", {"configure": queue, "write": f"^{broker.EXCHANGE}$", "read": queue})
+        queue, held = (re.escape(it) for it in (broker.gateway_queue(gateway), broker.held_queue(gateway)))
+        self._ask("PUT", f"permissions/{HOST}/{quote(gateway)}",
+                  {"configure": f"^({queue}|{held})$", "write": f"^{broker.EXCHANGE}$", "read": f"^{queue}$"})
         # (at a $ a newline may stand behind the name)
         self._ask("PUT", f"topic-permissions/{HOST}/{quote(gateway)}",
                   {"exchange": broker.EXCHANGE, "write": f"^{re.escape(broker.up_key(area, gateway))}\\z", "read": NONE})

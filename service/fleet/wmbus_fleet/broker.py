@@ -25,6 +25,7 @@ EXCHANGE = "wmbus"
 QUORUM = {"x-queue-type": "quorum", "x-single-active-consumer": True}
 PERSISTENT = 2
 PATIENCE = 20.0
+ACCESS_REFUSED = 403
 # an old question mustn't have a gateway send anything: a gap that is still there is asked for anew
 ASKED_MILLISECONDS = 60_000
 # no queue takes a message; the broker goes, or says nothing
@@ -37,7 +38,7 @@ def connected(told: Broker) -> Iterator[Any]:
     """A connection to one of the broker's nodes, any that answers, which ends with the block."""
     nodes = told.nodes()
     if not nodes:
-        raise Trouble("broker.host", "it names no node")
+        raise Trouble("broker.host", "it names no node", "write the name by which this machine reaches the broker")
     try:
         with within(PATIENCE):
             connection = pika.BlockingConnection([_parameters(told, *node) for node in random.sample(nodes, len(nodes))])
@@ -112,6 +113,11 @@ def gateway_queue(name: str) -> str:
     return f"gateway.{name}"
 
 
+def held_queue(name: str) -> str:
+    """An empty queue, which the one connection of a gateway's name has."""
+    return f"{gateway_queue(name)}.held"
+
+
 def up_key(area: str, gateway: str) -> str:
     """What a gateway's messages are called."""
     return f"up.{area}.{gateway}"
@@ -130,6 +136,18 @@ def declare_gateway(channel: Any, name: str) -> int:
     with within(PATIENCE):
         declared = channel.queue_declare(gateway_queue(name), durable=True, arguments=QUORUM)
     return int(declared.method.consumer_count)
+
+
+def hold_gateway(connection: Any, name: str) -> bool:
+    """Keeps a gateway's name for a connection as long as that stands; whether no other one has it. (Of two that come in the same moment both
+    may be told that nobody listens, and the broker takes both.)"""
+    try:
+        with within(PATIENCE):
+            connection.channel().queue_declare(held_queue(name), exclusive=True, arguments={"x-queue-type": "classic"})
+    except pika.exceptions.ChannelClosedByBroker as fault:
+        # (a user that an earlier release made hasn't the right to it, and goes on without)
+        return bool(fault.reply_code == ACCESS_REFUSED)
+    return True
 
 
 def delete_gateway(channel: Any, name: str) -> None:

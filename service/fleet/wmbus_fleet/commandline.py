@@ -168,6 +168,9 @@ def _gateways(config: Config, asked: argparse.Namespace) -> None:
     with store.connect(config.database) as database:
         count = sum(gateways.add(config, database, asked.area, name, asked.files) for name in asked.names)
     print(f"{count} new gateways")
+    if asked.files and not config.broker.from_outside().host:
+        print(f"their {gateways.SETTINGS} lack broker.host: write the broker's name there, or name it once as host under [broker.outside] in"
+              f" {asked.config}, and say this again")
 
 
 def _remove(config: Config, asked: argparse.Namespace) -> None:

@@ -22,6 +22,16 @@ class Programs:
 
 
 @dataclass(frozen=True)
+class Outside:
+    """RabbitMQ as gateways reach it from their machines, and the file of the authority there."""
+
+    host: str
+    port: int = 5671
+    tls: bool = True
+    authority: str = ""
+
+
+@dataclass(frozen=True)
 class Broker:
     """RabbitMQ, and whom it knows this machine as."""
 
@@ -34,6 +44,7 @@ class Broker:
     authority: str = ""
     # where its management plugin is asked for users and queues
     management: str = ""
+    outside: Outside | None = None
 
     def nodes(self) -> list[tuple[str, int]]:
         """The host and the port of each node."""
@@ -42,6 +53,14 @@ class Broker:
             raise Trouble(f"broker.host {self.host}", "what stands behind a colon there is no port",
                           "write HOST:PORT; an address of IP version 6 needs a name, in DNS or /etc/hosts")
         return [(host, int(port) if port.isdecimal() else self.port) for host, _, port in told]
+
+    def from_outside(self) -> Outside:
+        """As gateways reach it, so far as that is known: what this machine finds on itself says nothing of other machines."""
+        if self.outside:
+            return self.outside
+        if any(host == "localhost" or host.startswith("127.") for host, _ in self.nodes()):
+            return Outside("")
+        return Outside(self.host, self.port, self.tls, self.authority)
 
 
 @dataclass(frozen=True)
@@ -90,6 +109,8 @@ class Keep:
 
     lines: int = 7
     readings: int = 0
+    # those that are done, with their downlinks
+    commands: int = 365
 
 
 @dataclass(frozen=True)

@@ -34,7 +34,7 @@ log = logging.getLogger("wmbus")
 # messages that are made, and published, in one go
 ROOM = 20
 LOOK, PAUSE = 0.05, 1.0
-DAY = 86_400.0
+HOUR, DAY = 3600.0, 86_400.0
 TABLES = """
 create table if not exists numbering (one integer primary key check (one = 1), epoch integer not null, last integer not null);
 create table if not exists source (receiver text, file text, taken integer not null, primary key (receiver, file)) without rowid;
@@ -72,6 +72,8 @@ class Agent:
         self.numbered_at = self.said_at = 0.0
         # what went wrong last, as long as nothing went well behind it
         self.trouble = ""
+        # when it was said last that the broker lacks messages
+        self.told_waiting = -DAY
         # of a meter the counter of the downlink that the radio got last
         self.written: dict[str, int] = {}
 
@@ -220,6 +222,7 @@ class Agent:
             while time.monotonic() < limit and not ending.is_set():
                 try:
                     self.number(time.time())
+                    self._tell_waiting(time.time())
                     unnumbered = ""
                 except (ProgramFailed, Trouble, OSError, sqlite3.Error) as fault:
                     if told_of(fault) != unnumbered:
@@ -227,11 +230,23 @@ class Agent:
                     unnumbered = told_of(fault)
                 ending.wait(LOOK)
 
+    def _tell_waiting(self, now: float) -> None:
+        """Says once a day that messages wait for the broker: they stay until it has them, however full the disk gets."""
+        if time.monotonic() < self.told_waiting + DAY:
+            return
+        oldest = self.database.execute("select made from message where not acknowledged order by number limit 1").fetchone()
+        if oldest and now - oldest[0] > HOUR:
+            (count,) = self.database.execute("select count(*) from message where not acknowledged").fetchone()
+            log.warning("%s: %d messages wait for the broker, the oldest for %d hours; they stay until it has them, and need room on the disk",
+                        self.told.name, count, (now - oldest[0]) // HOUR)
+            self.told_waiting = time.monotonic()
+
     def _serve(self, connection: Any, ending: Ending) -> None:
         """Goes on as long as the connection stands."""
         channel = broker.opened(connection)
-        is_taken = broker.declare_gateway(channel, self.told.name)
-        # (two that come in the same moment, as behind a start of the broker, don't ask in the same one again)
+        is_taken = broker.declare_gateway(channel, self.told.name) or not broker.hold_gateway(connection, self.told.name)
+        # (one of an earlier release doesn't hold it: two that come in the same moment, as behind a start of the broker, don't ask in the same
+        # one again)
         ending.wait(random.uniform(0, PAUSE))
         if is_taken or broker.declare_gateway(channel, self.told.name):
             # (both would number messages of their own under one name, and of each number one is taken)

@@ -49,15 +49,16 @@ def administration_for(config: Config, name: str) -> Administration | None:
 def put_files(config: Config, folder: Path, area: str, name: str) -> str:
     """Writes what goes to the gateway's /etc/wmbus, its owner's alone; the password."""
     password = secrets.token_urlsafe(24)
+    told = config.broker.from_outside()
     settings = f"""# the gateway {name} (docs/FLEET.md); beside it stands config.toml with its receiver
 [broker]
-# as the server itself reaches the broker: for 127.0.0.1 write its name, and over a network its port with TLS and tls = true
-host = "{config.broker.host}"
-port = {config.broker.port}
+# {"the broker as this machine reaches it" if told.host else "write the name by which this machine reaches the broker"}
+host = "{told.host}"
+port = {told.port}
 user = "{name}"
 password_file = "/etc/wmbus/{PASSWORD}"
-tls = {"true" if config.broker.tls else "false"}
-{f'authority = "{config.broker.authority}"' if config.broker.authority else '# authority = "/etc/wmbus/authority.pem"'}
+tls = {"true" if told.tls else "false"}
+{f'authority = "{told.authority}"' if told.authority else '# authority = "/etc/wmbus/authority.pem"'}
 
 [gateway]
 name = "{name}"

@@ -25,6 +25,9 @@ log = logging.getLogger("wmbus")
 PREFETCH, MOST = 800, 4000
 LOOK, PAUSE = 0.05, 0.5
 SLACK, SET_BACK = 60, "a message of later moments under a number that was taken before (its file or its clock was set back)"
+ANEW = ("; where that goes on nothing that it hears is taken until it begins anew. On its machine, as root: systemctl stop wmbus-gateway"
+        " wmbus-receiver@RECEIVER; rm /var/lib/wmbus/gateway.{}.db* /var/lib/wmbus/spool/RECEIVER.*.lines; systemctl start"
+        " wmbus-receiver@RECEIVER wmbus-gateway")
 # a gateway is asked again where nothing came of it
 ASKED_SECONDS = 2
 
@@ -117,6 +120,11 @@ def oddities(fences: Mapping[str, Fence], messages: Sequence[Message], answers: 
     return +found
 
 
+def remedy_of(gateway: str, what: str) -> str:
+    """What to do about what a gateway says, where that isn't just left."""
+    return ANEW.format(gateway) if what == SET_BACK else ""
+
+
 def put_oddities(database: Database, found: Mapping[tuple[str, str], int]) -> None:
     """Counts them on, and says once what is new."""
     for (gateway, what), times in sorted(found.items()):
@@ -124,7 +132,7 @@ def put_oddities(database: Database, found: Mapping[tuple[str, str], int]) -> No
                                     " oddity.times + excluded.times, last_made = excluded.last_made returning times",
                           (gateway, what, times, time.time()))
         if count == times:
-            log.warning("%s sent %s, which is left (`wmbus-fleet status` counts them)", gateway, what)
+            log.warning("%s sent %s, which is left (`wmbus-fleet status` counts them)%s", gateway, what, remedy_of(gateway, what))
 
 
 def put_lines(config: Config, database: Database, taken: Sequence[Message]) -> int:
@@ -148,54 +156,54 @@ def put_fences(database: Database, fences: Mapping[str, Fence], until: Mapping[s
 
 
 class Consuming:
-    """Messages as they come over a connection."""
+    """Messages of some areas, as they come over a connection."""
 
     def __init__(self, intake: Intake, connection: Any, areas: Sequence[str]) -> None:
         self.intake, self.connection = intake, connection
         self.channel = broker.opened(connection)
-        self.channel.basic_qos(prefetch_count=PREFETCH)
-        # of each message its tag, its gateway, and what it is, where it is in form
-        self.held: list[tuple[int, str, Message | None]] = []
+        # of each area the broker gives so many before some are acknowledged: all together have no more in hand than fit into memory
+        self.share = max(1, PREFETCH // max(1, len(areas)))
+        self.channel.basic_qos(prefetch_count=self.share)
+        # of each message its tag, its queue, its gateway, and what it is, where it is in form
+        self.held: list[tuple[int, str, str, Message | None]] = []
         self.since = 0.0
-        self.areas: set[str] = set()
-        self.listen(areas)
-
-    def listen(self, areas: Sequence[str]) -> None:
-        """Takes messages of these areas too."""
         for area in areas:
-            if area not in self.areas:
-                broker.declare_area(self.channel, area)
-                broker.consume(self.channel, broker.area_queue(area), self._hold)
-                self.areas.add(area)
+            broker.declare_area(self.channel, area)
+        for area in areas:
+            broker.consume(self.channel, broker.area_queue(area), self._hold)
 
     def _hold(self, _channel: Any, method: Any, _properties: Any, body: bytes) -> None:
         """A message is in hand."""
         if not self.held:
             self.since = time.monotonic()
-        self.held.append((method.delivery_tag, gateway_in(method.routing_key), read_lines(method.routing_key, body)))
+        message = read_lines(method.routing_key, body)
+        self.held.append((method.delivery_tag, method.consumer_tag, gateway_in(method.routing_key), message))
 
     def turn(self) -> int:
         """A batch, once it is due; how many messages it had."""
-        lines = sum(len(message.lines) for _, _, message in self.held if message)
-        # (the broker gives no more before some are acknowledged)
-        is_due = time.monotonic() - self.since >= self.intake.config.interval or lines >= MOST or len(self.held) >= PREFETCH
+        is_due = time.monotonic() - self.since >= self.intake.config.interval or self._is_full()
         self.connection.process_data_events(0 if self.held and is_due else LOOK)
         if not self.held or not is_due:
             return 0
         count = self._count()
         tag, batch = self.held[count - 1][0], self.held[:count]
-        asked = self.intake.take([it for _, _, it in batch if it], [name for _, name, it in batch if it is None])
+        asked = self.intake.take([it for *_, it in batch if it], [name for *_, name, it in batch if it is None])
         del self.held[:count]
         acknowledge(self.channel, tag)
         for it in asked:
             ask(self.channel, it)
         return count
 
+    def _is_full(self) -> bool:
+        """Whether a transaction's lines are in hand, or all that the broker gives of an area."""
+        of_queues = Counter(queue for _, queue, *_ in self.held)
+        return sum(len(it.lines) for *_, it in self.held if it) >= MOST or max(of_queues.values(), default=0) >= self.share
+
     def _count(self) -> int:
-        """How many messages the batch has, one at least: no more messages and lines than one transaction takes. (Of each area the broker
-        gives so many.)"""
+        """How many messages the batch has, one at least: no more messages and lines than one transaction takes. (Of more areas than that the
+        broker gives one each.)"""
         lines = 0
-        for count, (_, _, message) in enumerate(self.held):
+        for count, (*_, message) in enumerate(self.held):
             lines += len(message.lines) if message else 0
             if count and lines > MOST or count == PREFETCH:
                 return count
@@ -230,10 +238,10 @@ def run(config: Config, areas: Sequence[str], name: str, ending: Ending) -> None
     while not ending.is_set():
         try:
             with store.connect(config.database) as database, broker.connected(config.broker) as connection:
-                consuming = Consuming(Intake(config, database, name), connection, known_areas(database, areas))
-                while not ending.is_set():
-                    # (of all also those that were made since)
-                    consuming.listen(known_areas(database, areas))
+                known = known_areas(database, areas)
+                consuming = Consuming(Intake(config, database, name), connection, known)
+                # (of all also those that were made since, among which what it has in hand is shared out anew)
+                while not ending.is_set() and known == known_areas(database, areas):
                     if consuming.turn():
                         trouble = ""
         except (psycopg.Error, ProgramFailed, Trouble, *broker.FAULTS) as fault:

@@ -2,15 +2,20 @@
 from __future__ import annotations
 
 import logging
+import socket
+import threading
 import time
+from collections import deque
 from collections.abc import Iterator
-from contextlib import closing
+from contextlib import closing, suppress
 from dataclasses import dataclass, field
+from socketserver import ThreadingMixIn
 from typing import Any
+from wsgiref.simple_server import WSGIRequestHandler, WSGIServer, make_server
 
 import psycopg
 from pika.exceptions import ChannelClosedByBroker
-from prometheus_client import CollectorRegistry, start_http_server
+from prometheus_client import CollectorRegistry, make_wsgi_app
 from prometheus_client.core import CounterMetricFamily, GaugeMetricFamily, Metric
 from prometheus_client.registry import Collector
 from wmbus_service.ending import Ending
@@ -19,27 +24,33 @@ from wmbus_service.trouble import Trouble
 
 from . import broker, store
 from .config import Config, Metrics
+from .status import AGES, AHEAD
 from .view import looking
 from .view.door import FleetDoor
 
 log = logging.getLogger("wmbus")
 
 INTERVAL = 15.0
+# so long a connection has for all that is asked and answered over it, and so many are open at once
+SILENCE, MOST = 5.0, 32
 PREFIX = "wmbus_fleet_"
 # totals of all workers, over all starts
 COUNTERS = {name: words for name, words in OF_SESSIONS.items() if name != "lines"} | {
     "lines": "lines of gateways that were taken", "heard": "lines of gateways that a session heard",
     "messages": "messages of gateways that came", "take": "messages that were taken", "again": "messages that had come before",
     "ask": "messages behind a gap", "asked": "questions to gateways", "unknown": "messages of gateways that aren't known",
+    "ended": "runs of the sessions' program that were ended from outside, or had no memory",
 }
 GAUGES = {
     "lag_seconds": "how long ago the oldest line that waits for a session was heard, by its receiver's clock",
     "inbox_lines": "lines that wait for a session", "meters": "meters that are known",
     "meters_silent": "meters without a reading for two days",
     "meters_unheard": "meters that never had a reading", "downlinks_waiting": "downlinks that the broker hasn't got yet",
-    "downlinks_missed": "downlinks that weren't sent in time", "commands_open": "commands that aren't done",
+    "downlinks_waiting_seconds": "how long ago the oldest of these was made", "commands_open": "commands that aren't done",
+    "commands_open_seconds": "how long ago the oldest of these was put", "downlinks_missed": "downlinks that weren't sent in time",
     "aside_lines": "lines at which the program failed", "gaps": "epochs of gateways that ended with a gap",
     "ticks_late": "ticks that were due a minute ago or earlier and don't wait for a gateway that is cut off",
+    "gateways_clock_seconds": "how far most gateways' clocks are ahead of the database server's",
     "broker_up": "1 where the broker answers",
 }
 LABELLED = {
@@ -52,6 +63,7 @@ TABLES = ("meter", "line", "reading", "outbox", "command", "refusal")
 QUERIES = {
     "downlinks_missed": "select count(*) from outbox where missed is not null", "aside_lines": "select count(*) from aside",
     "gaps": "select count(*) from missing", "ticks_late": "select count from late",
+    "gateways_clock_seconds": AHEAD, "downlinks_waiting_seconds": AGES["downlinks"], "commands_open_seconds": AGES["commands"],
 }
 NAMES = {"lag_seconds": "lag", "inbox_lines": "inbox", "meters": "meters", "meters_silent": "silent_meters",
          "meters_unheard": "unheard_meters", "downlinks_waiting": "downlinks_waiting", "commands_open": "commands"}
@@ -142,13 +154,63 @@ class Figures(Collector):
             yield gauge
 
 
+class Asked(WSGIRequestHandler):
+    """What is asked over a connection; nothing of it is logged."""
+
+    def handle(self) -> None:
+        """Reads, and answers."""
+        with suppress(OSError):
+            super().handle()
+
+    def log_message(self, format: str, *args: object) -> None:
+        """Nothing."""
+
+
+class Server(ThreadingMixIn, WSGIServer):
+    """Answers several at once. A connection whose time is over is cut off, whatever comes over it, and the oldest one where too many are
+    open: who asks for the metrics is done by then."""
+
+    daemon_threads = True
+
+    def __init__(self, address: tuple[str, int], handler: type[Asked]) -> None:
+        self.held: deque[tuple[float, socket.socket]] = deque()
+        super().__init__(address, handler)
+
+    def process_request(self, request: Any, client_address: Any) -> None:
+        """A connection, which a thread of its own answers."""
+        self.held.append((time.monotonic(), request))
+        if len(self.held) > MOST:
+            self._cut_off()
+        super().process_request(request, client_address)
+
+    def service_actions(self) -> None:
+        """Looks for those whose time is over, twice a second at least."""
+        while self.held and self.held[0][0] < time.monotonic() - SILENCE:
+            self._cut_off()
+
+    def _cut_off(self) -> None:
+        _, request = self.held.popleft()
+        # (most have long been answered, and are closed)
+        with suppress(OSError):
+            request.shutdown(socket.SHUT_RDWR)
+
+
+def serve(told: Metrics, registry: CollectorRegistry) -> None:
+    """Serves the metrics at an address of any family."""
+    class OfFamily(Server):
+        """A server of that family."""
+    OfFamily.address_family = socket.getaddrinfo(told.host, told.port, type=socket.SOCK_STREAM)[0][0]
+    server = make_server(told.host, told.port, make_wsgi_app(registry), OfFamily, Asked)
+    threading.Thread(target=server.serve_forever, daemon=True).start()
+
+
 def run(config: Config, ending: Ending) -> None:
     """Serves the metrics until the process is told to end."""
     told = config.metrics or Metrics()
     figures, registry = Figures(), CollectorRegistry()
     registry.register(figures)
     try:
-        start_http_server(told.port, addr=told.host, registry=registry)
+        serve(told, registry)
     except (OSError, OverflowError, UnicodeError) as fault:
         raise Trouble(f"metrics.host {told.host} and metrics.port {told.port}", f"the metrics can't be served: {fault}",
                       "name another host or port, or end what uses this one") from None

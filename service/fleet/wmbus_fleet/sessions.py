@@ -15,9 +15,10 @@ from wmbus_service.merging import moment_in
 from wmbus_service.steps import ProgramFailed, Told, run_steps, state_text
 from wmbus_service.trouble import Trouble
 
-from . import retention, store
+from . import store
 from .arrived import Arrived, arrived
 from .config import Config, Ticks
+from .retention import Retention
 from .rows import arrived_of
 from .schema import SHARDS
 from .store import Database
@@ -28,6 +29,8 @@ log = logging.getLogger("wmbus")
 # a state has 4,096 meters at most, and each line may name another one
 MOST = 4000
 PAUSE, LET_GO = 0.5, 600.0
+# the program's own word for it (docs/FORMATS.md, "Exit statuses")
+NO_MEMORY = 10
 
 
 class Sessions:
@@ -42,6 +45,8 @@ class Sessions:
         # shards in which the program failed over lines with ticks among them: these are heard apart, since there may always be lines, and
         # so many at most
         self.apart: dict[int, int] = {}
+        # shards whose last run of the program was ended from outside, and how
+        self.ended: dict[int, str] = {}
 
     def turn(self, now: float) -> int:
         """A session of each shard that has something to hear, from any shard on; the most lines that one took."""
@@ -59,7 +64,8 @@ class Sessions:
                 if batch:
                     write(self.database, self.config.ticks, shard, batch, self._told(batch), now)
         except ProgramFailed as failed:
-            return self._halve(shard, batch, failed, now)
+            return self._failed(shard, batch, failed, now)
+        self.ended.pop(shard, None)
         most = self.apart if shard in self.apart else self.most
         most[shard] = min(MOST, most[shard] * 2)
         return len(batch)
@@ -84,6 +90,25 @@ class Sessions:
             raise Trouble("the database", "the collector's own address isn't known", "`wmbus-fleet commission ROSTER` gives it")
         return run_steps(words_of(self.config.programs.steps), state_text(own, [blocks_of(self.database, addresses)]), lines)
 
+    def _failed(self, shard: int, batch: Sequence[Event], failed: ProgramFailed, now: float) -> int:
+        """What is done after a failed session, by why it failed."""
+        try:
+            return self._tell_end(shard, batch, failed) if is_lack(failed) else self._halve(shard, batch, failed, now)
+        except ProgramFailed as ended:
+            return self._tell_end(shard, batch, ended)
+
+    def _tell_end(self, shard: int, batch: Sequence[Event], failed: ProgramFailed) -> int:
+        """The program was ended from outside, or had no memory: that is no line's fault. The same lines are heard again a moment later,
+        half as many at once, which take less of what may lack."""
+        most = self.apart if shard in self.apart else self.most
+        most[shard] = max(1, len(batch) // 2)
+        if self.ended.get(shard) != str(failed):
+            log.error("the program was ended from outside, or had no memory, over lines of shard %d, which are heard again: %s; look at the"
+                      " machine's memory", shard, failed)
+        self.ended[shard] = str(failed)
+        store.add_totals(self.database, f"shard {shard}", {"ended": 1})
+        return 0
+
     def _halve(self, shard: int, batch: Sequence[Event], failed: ProgramFailed, now: float) -> int:
         """After a failed session the shard's next one takes half of its lines, until the line at which the program fails is found; that
         one is set aside where the program fails at it once more."""
@@ -94,11 +119,11 @@ class Sessions:
             if any(event.ticked for event in batch):
                 self.apart.setdefault(shard, MOST)
             return len(batch)
-        if failed.is_ended() or batch[0] != self.suspects.get(shard):
-            # (what a machine lacks for a moment, as memory or time, is no line's fault)
-            self.suspects[shard] = None if failed.is_ended() else batch[0]
+        if batch[0] != self.suspects.get(shard):
+            # (what a machine lacks for a moment, as time, is no line's fault)
+            self.suspects[shard] = batch[0]
             log.warning("the program failed over a line, which is heard again: %s", failed)
-            return int(not failed.is_ended())
+            return 1
         self._look_without_lines(batch)
         with store.transaction(self.database):
             is_aside = lock(self.database, shard) and set_aside(self.database, batch[0], shard, str(failed), now)
@@ -111,8 +136,15 @@ class Sessions:
         try:
             self._run({address_of(event) for event in batch}, [])
         except ProgramFailed as failed:
+            if is_lack(failed):
+                raise
             raise Trouble(self.config.programs.steps, f"the program fails over what is known of the meter, without any line: {failed}",
                           "look at its release and at the meter's block") from None
+
+
+def is_lack(failed: ProgramFailed) -> bool:
+    """Whether the machine is why the program failed, whatever the lines are."""
+    return failed.is_ended() or failed.status == NO_MEMORY
 
 
 def lock(database: Database, shard: int) -> bool:
@@ -232,12 +264,12 @@ def run(config: Config, ending: Ending) -> None:
     while not ending.is_set():
         try:
             with store.connect(config.database) as database:
-                sessions, let_go_at = Sessions(config, database), time.monotonic()
+                sessions, retention, let_go_at = Sessions(config, database), Retention(database, config.keep), time.monotonic()
                 while not ending.is_set():
                     count = sessions.turn(time.time())
                     is_behind = count >= MOST // 2
                     # (of a large fleet each turn has lines)
-                    if not is_behind and time.monotonic() > let_go_at and not retention.let_go(database, config.keep, time.time()):
+                    if not is_behind and time.monotonic() > let_go_at and not retention.let_go(time.time()):
                         let_go_at = time.monotonic() + LET_GO
                     trouble = ""
                     ending.wait(0 if is_behind else config.interval)

@@ -7,8 +7,10 @@ from collections.abc import Iterator
 from typing import Any
 
 from psycopg.rows import dict_row
+from wmbus_service.commands import OPEN
 
 from . import store
+from .intake import remedy_of
 from .store import Database
 
 LAST, MOST = 10, 50
@@ -21,6 +23,18 @@ REFUSALS = """
     select coalesce(g.area, '') as area, r.reason, sum(r.times)::bigint as times, count(*) as meters
     from refusal r left join meter m using (address) left join gateway g on g.name = m.gateway
     group by 1, 2 order by 1, 3 desc, 2"""
+# for how many seconds the oldest one of what waits does, also by the views of the page
+AGE = "select greatest(0, extract(epoch from now()) - min({}))::bigint from"
+AGES = {
+    "lines": f"{AGE.format('heard')} page.waiting where heard <= extract(epoch from now())",
+    "downlinks": f"{AGE.format('made')} outbox where sent is null and missed is null",
+    "commands": f"{AGE.format('made')} command where state in ('waiting', 'queued', 'sent')",
+}
+# how many seconds most gateways' clocks, more than half of them, are ahead of the database server's at least
+AHEAD = """with told as (select percentile_disc(0.5) within group (order by until - seen) as low,
+        percentile_disc(0.5) within group (order by until - seen desc) as high
+        from page.gateway where not gone and seen > extract(epoch from now()) - 3600)
+    select case when low > 0 then low when high < 0 then high else 0 end::bigint from told"""
 # parts without which nothing is heard
 UNITS = {"intake": "wmbus-intake@0", "sessions": "wmbus-sessions@0", "downlinks": "wmbus-downlinks"}
 PARTS = tuple(UNITS)
@@ -39,13 +53,15 @@ def figures(database: Database) -> dict[str, Any]:
         "meters": store.one(database, "select count(*) from meter"),
         "inbox": store.one(database, "select count(*) from inbox"),
         "downlinks_waiting": store.one(database, "select count(*) from outbox where sent is null and missed is null"),
+        "ages": {name: store.one(database, query) for name, query in AGES.items()},
         # (others wait for what a gateway that is cut off heard before they were due)
         "ticks_late": store.one(database, "select count(*) from meter m left join gateway g on g.name = m.gateway where m.due < %s"
                                           " and (g.name is null or g.until > m.due)", (time.time() - 60,)),
         "commands": store.pairs(database, "select state, count(*) from command group by state order by state"),
+        "ahead": store.one(database, AHEAD),
         "clocks": _rows(database, "select name, (until - extract(epoch from seen))::bigint as ahead from gateway where seen > now()"
                                   f" - interval '{SILENT} seconds' and abs(until - extract(epoch from seen)) > {SILENT}"
-                                  " and gone is null order by name"),
+                                  f" and gone is null order by name limit {MOST}"),
         # (one that goes on behind a gap is asked again and again)
         "asked": _rows(database, "select name, epoch, number + 1 as number from gateway where gone is null and asked is not null"
                                  " and (seen is null or seen <= asked and seen < now() - interval '60 seconds') order by name"),
@@ -72,7 +88,9 @@ def in_words(told: dict[str, Any]) -> Iterator[str]:
     totals = told["totals"]
     taken, heard, stored = (totals.get(name, 0) for name in ("lines", "heard", "stored"))
     yield f"{told['meters']} meters; {taken} lines taken, {heard} heard, {stored} readings"
-    yield f"{told['inbox']} lines wait for a session, {told['downlinks_waiting']} downlinks for the broker"
+    ages, waiting = told["ages"], told["downlinks_waiting"]
+    yield (f"{told['inbox']} lines wait for a session" + (f", the oldest for {ages['lines']} s" if told["inbox"] else "")
+           + f"; {waiting} downlinks for the broker" + (f", the oldest for {ages['downlinks']} s" if waiting else ""))
     runs = {part: sum(count for name, count in told["workers"].items() if name == f"wmbus {part}") for part in PARTS}
     yield "at work: " + ", ".join(f"{count} {part}" for part, count in runs.items())
     for part, count in runs.items():
@@ -83,16 +101,20 @@ def in_words(told: dict[str, Any]) -> Iterator[str]:
     if told["ticks_late"]:
         yield f"{told['ticks_late']} ticks are late: no sessions run, or too few"
     if told["commands"]:
-        yield "commands: " + ", ".join(f"{count} {state}" for state, count in told["commands"].items())
+        yield ("commands: " + ", ".join(f"{count} {state}" for state, count in told["commands"].items())
+               + (f"; the oldest open one for {ages['commands']} s" if {*OPEN, "waiting"} & told["commands"].keys() else ""))
     for it in told["gateways"]:
         yield f"gateway {it['name']} in {it['area']}: " + ("never heard" if it["age"] is None else f"not heard for {it['age']} s")
+    if abs(told["ahead"]) > SILENT:
+        yield (f"most gateways tell a moment {abs(told['ahead'])} s {'ahead' if told['ahead'] > 0 else 'behind'}: look at this server's clock"
+               " first (timedatectl), unless they were cut off and send what they kept; nothing goes that is young by the clock behind")
     for it in told["clocks"]:
         yield f"gateway {it['name']} tells a moment {abs(it['ahead'])} s " + (
             "ahead: its clock is wrong" if it["ahead"] > 0 else "behind: its clock is wrong, or it was cut off and sends what it kept")
     for it in told["asked"]:
         yield f"gateway {it['name']} was asked for message {it['number']} of epoch {it['epoch']} and hasn't sent it"
     for it in told["oddities"]:
-        yield f"{it['gateway']} sent {it['times']} times {it['what']}, which is left"
+        yield f"{it['gateway']} sent {it['times']} times {it['what']}, which is left{remedy_of(it['gateway'], it['what'])}"
     for it in told["missing"]:
         yield f"gateway {it['gateway']} began a new epoch behind message {it['number']} of {it['epoch']}: its later ones may be gone"
     for it in told["downlinks_missed"]:
