@@ -1,27 +1,41 @@
 -- The tables of bytes are the definition's, and the two substitutions undo each other.
-use Rattle.std.proofs.Common.{◌≡◌, ℕ, ◌<◌, ◌==◌, true, get_or, refl, ltb}
+use Rattle.std.proofs.Common.{◌≡◌, ℕ, ◌<◌, ◌==◌, true, get_or, refl, sym, ap, ◌∙◌, ltb}
 use Rattle.std.proofs.lemmas.Bool.{ltb-true}
 use Rattle.aes_block.proofs.Bytes.{holds_below, at_each_below, same_below}
-use Rattle.aes_block.specs.Field.{substitute, product, inverse, inverse_up_to, polynomial_product, remainder, affine, inverse_affine, inverse_substitute}
+use Rattle.aes_block.proofs.Elements.{looked_up, inverse_looked_up}
+use Rattle.aes_block.specs.Field.{substitute, product, polynomial_product, remainder, affine, inverse_affine, inverse_substitute}
 use Rattle.aes_block.specs.Block.{power_of_x}
 use Rattle.aes_block.specs.Laws.{SubstitutionIsABijection}
 use Rattle.aes_block.specs.declared.rounds.TheConstants.{ROUND_CONSTANTS}
 use Rattle.aes_block.specs.declared.tables.TheConstants.{SUBSTITUTION, INVERSE_SUBSTITUTION}
 
 -- ---- the tables
-substituted_is_table : holds_below 256 (λ k. get_or SUBSTITUTION k 0 == substitute k) ≡ true
-unfolding substitute affine inverse inverse_up_to product polynomial_product remainder
+-- (an inverse is looked up in the very table, so that none is searched for)
+substituted_is_table : holds_below 256 (λ k. get_or SUBSTITUTION k 0 == affine (looked_up k)) ≡ true
+unfolding affine looked_up inverse_affine
 substituted_is_table = refl
 
 pub substituted_at : (b : ℕ) → b < 256 → get_or SUBSTITUTION b 0 ≡ substitute b
-substituted_at = same_below 256 (λ k. get_or SUBSTITUTION k 0) substitute substituted_is_table
+unfolding substitute
+substituted_at b h =
+    same_below 256 (λ k. get_or SUBSTITUTION k 0) (λ k. affine (looked_up k)) substituted_is_table b h
+    ∙ ap affine (sym (inverse_looked_up b h))
 
-inverse_substituted_is_table : holds_below 256 (λ k. get_or INVERSE_SUBSTITUTION k 0 == inverse_substitute k) ≡ true
-unfolding inverse_substitute inverse_affine inverse inverse_up_to product polynomial_product remainder
+inverse_affines_are_bytes : holds_below 256 (λ k. ltb (inverse_affine k) 256) ≡ true
+unfolding inverse_affine
+inverse_affines_are_bytes = refl
+
+inverse_substituted_is_table : holds_below 256 (λ k. get_or INVERSE_SUBSTITUTION k 0 == looked_up (inverse_affine k)) ≡ true
+unfolding looked_up inverse_affine
 inverse_substituted_is_table = refl
 
 pub inverse_substituted_at : (b : ℕ) → b < 256 → get_or INVERSE_SUBSTITUTION b 0 ≡ inverse_substitute b
-inverse_substituted_at = same_below 256 (λ k. get_or INVERSE_SUBSTITUTION k 0) inverse_substitute inverse_substituted_is_table
+unfolding inverse_substitute
+inverse_substituted_at b h =
+    let element : inverse_affine b < 256 =
+    ltb-true _ _ (at_each_below 256 (λ k. ltb (inverse_affine k) 256) inverse_affines_are_bytes b h) in
+    same_below 256 (λ k. get_or INVERSE_SUBSTITUTION k 0) (λ k. looked_up (inverse_affine k)) inverse_substituted_is_table b h
+    ∙ sym (inverse_looked_up (inverse_affine b) element)
 
 round_constants_are_powers : holds_below 10 (λ n. get_or ROUND_CONSTANTS n 0 == power_of_x n) ≡ true
 unfolding power_of_x product polynomial_product remainder

@@ -1,9 +1,9 @@
 -- The tables of words are the definition's.
 use Rattle.std.proofs.Common.{◌≡◌, ℕ, ◌<◌, ◌==◌, true, [], get_or, refl, ap, ◌∙◌}
 use Rattle.aes_block.proofs.Bytes.{holds_below, at_each_below, same_below}
-use Rattle.aes_block.proofs.ByteTables.{substituted_at, inverse_substituted_at}
+use Rattle.aes_block.proofs.ByteTables.{substituted_at, inverse_substituted_at, inverse_substitute-lt}
 use Rattle.aes_block.specs.Field.{product, polynomial_product, remainder}
-use Rattle.aes_block.specs.Block.{column_product, mix_polynomial, inverse_mix_polynomial}
+use Rattle.aes_block.specs.Block.{column_product, mix_polynomial}
 use Rattle.aes_block.specs.Words.{word, one_byte, mixed_substitute, inverse_mixed, inverse_mixed_substitute}
 use Rattle.aes_block.specs.declared.tables.TheConstants.{SUBSTITUTION, INVERSE_SUBSTITUTION, MIXED_SUBSTITUTION, INVERSE_MIXED, INVERSE_MIXED_SUBSTITUTION}
 
@@ -36,22 +36,23 @@ inverse_mixture_at r x hr hx =
     (at_each_below 4 (λ r. holds_below 256 (λ x. get_or (get_or INVERSE_MIXED r []) x 0 == inverse_mixed r x))
     inverse_mixture_is_table r hr) x hx
 
--- the column of a byte, mixed back
-abbrev mixed_back_at : ℕ → ℕ → ℕ
-mixed_back_at r y = word (column_product inverse_mix_polynomial (one_byte r y))
-
+-- by the two tables that it combines, so that no product is computed again
 inverse_mixed_substitution_is_table : holds_below 4 (λ r. holds_below 256
-    (λ x. get_or (get_or INVERSE_MIXED_SUBSTITUTION r []) x 0 == mixed_back_at r (get_or INVERSE_SUBSTITUTION x 0))) ≡ true
-unfolding word column_product product polynomial_product remainder
+    (λ x. get_or (get_or INVERSE_MIXED_SUBSTITUTION r []) x 0 == get_or (get_or INVERSE_MIXED r []) (get_or INVERSE_SUBSTITUTION x 0) 0))
+    ≡ true
 inverse_mixed_substitution_is_table = refl
 
 pub inverse_mixed_substitution_at : (r x : ℕ) → r < 4 → x < 256
     → get_or (get_or INVERSE_MIXED_SUBSTITUTION r []) x 0 ≡ inverse_mixed_substitute r x
-unfolding inverse_mixed_substitute
+unfolding inverse_mixed_substitute inverse_mixed
 inverse_mixed_substitution_at r x hr hx =
-    same_below 256 (λ x. get_or (get_or INVERSE_MIXED_SUBSTITUTION r []) x 0) (λ x. mixed_back_at r (get_or INVERSE_SUBSTITUTION x 0))
-    (at_each_below 4
-    (λ r. holds_below 256 (λ x. get_or (get_or INVERSE_MIXED_SUBSTITUTION r []) x 0 == mixed_back_at r (get_or INVERSE_SUBSTITUTION x 0)))
+    let y : ℕ = get_or INVERSE_SUBSTITUTION x 0 in
+    let element : y < 256 = rw (inverse_substituted_at x hx) (inverse_substitute-lt x hx) in
+    same_below 256 (λ x. get_or (get_or INVERSE_MIXED_SUBSTITUTION r []) x 0)
+    (λ x. get_or (get_or INVERSE_MIXED r []) (get_or INVERSE_SUBSTITUTION x 0) 0)
+    (at_each_below 4 (λ r. holds_below 256
+    (λ x. get_or (get_or INVERSE_MIXED_SUBSTITUTION r []) x 0 == get_or (get_or INVERSE_MIXED r []) (get_or INVERSE_SUBSTITUTION x 0) 0))
     inverse_mixed_substitution_is_table r hr)
     x hx
-    ∙ ap (mixed_back_at r) (inverse_substituted_at x hx)
+    ∙ inverse_mixture_at r y hr element
+    ∙ ap (inverse_mixed r) (inverse_substituted_at x hx)

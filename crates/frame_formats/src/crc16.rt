@@ -45,7 +45,6 @@ fn after_byte(register: u16, byte: u8) -> u16
 
 /// The CRC of a block of bytes (EN 13757-4): the polynomial is x^16 + 0x3D65, the highest bit comes first, the
 /// remainder is complemented.
-#[tactic(auto, using(crate::proofs::Division::nothing_left, crate::proofs::Division::one_more, crate::proofs::Division::all_through))]
 pub fn crc(bytes: &[u8]) -> u16
     ensures is { IsCrc bytes.now result }
     ensures computed { result ≡ crc_of bytes.now }

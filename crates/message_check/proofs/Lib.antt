@@ -5,3 +5,4 @@ pub mod RefusalLaws7
 mod AnswerLaws
 mod Causes
 mod LayerFaults
+mod Messages

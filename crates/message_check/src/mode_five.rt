@@ -75,7 +75,6 @@ fn decrypt_for(keys: &Keys, commission: &Commission, tpl: &Tpl, message: &mut [u
 }
 
 // What a message says after another, or the first refusal.
-#[tactic(auto, unfolding(crate::specs::Opening::opened5, crate::specs::Opening::compared5, crate::specs::Opening::opened5_after))]
 fn open_message(
     keys: &Keys,
     commission: &Commission,

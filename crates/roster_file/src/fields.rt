@@ -83,15 +83,18 @@ fn first_columns<'a>(fields: &mut Fields<'a>) -> Option<Columns<'a>>
         (columns_of Version.One fields.old ≡ None)
         (λ c. columns_of Version.One fields.old ≡ Some (columns_in c)) }
 {
-    let address = fields.next()?;
-    let mode = fields.next()?;
-    let key = fields.next()?;
-    let last = fields.next()?;
-    let down = fields.next()?;
-    let ids = fields.next()?;
-    if fields.next().is_some() {
+    // (one test of all, so that what goes at a missing field is proved once and not seven times)
+    let (Some(address), Some(mode), Some(key), Some(last), Some(down), Some(ids), None) = (
+        fields.next(),
+        fields.next(),
+        fields.next(),
+        fields.next(),
+        fields.next(),
+        fields.next(),
+        fields.next(),
+    ) else {
         return None;
-    }
+    };
     Some(Columns {
         address,
         mode,
@@ -110,16 +113,28 @@ fn second_columns<'a>(fields: &mut Fields<'a>) -> Option<Columns<'a>>
         (columns_of Version.Two fields.old ≡ None)
         (λ c. columns_of Version.Two fields.old ≡ Some (columns_in c)) }
 {
-    let address = fields.next()?;
-    let mode = fields.next()?;
-    let key = fields.next()?;
-    let other = fields.next()?;
-    let last = fields.next()?;
-    let down = fields.next()?;
-    let ids = fields.next()?;
-    if fields.next().is_some() {
+    // (one test of all, as above)
+    let (
+        Some(address),
+        Some(mode),
+        Some(key),
+        Some(other),
+        Some(last),
+        Some(down),
+        Some(ids),
+        None,
+    ) = (
+        fields.next(),
+        fields.next(),
+        fields.next(),
+        fields.next(),
+        fields.next(),
+        fields.next(),
+        fields.next(),
+        fields.next(),
+    ) else {
         return None;
-    }
+    };
     Some(Columns {
         address,
         mode,
