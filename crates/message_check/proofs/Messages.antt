@@ -2,11 +2,8 @@
 use Rattle.std.proofs.Common.{◌≡◌, ℕ, ◌≤◌, List, [], ◌∷◌, ◌++◌, length, Option, Result, Ok, Err, refl, ap, ◌∙◌, arith}
 use Rattle.meter_address.specs.Commission.{Commissioned}
 use Rattle.tpl_headers.specs.declared.header.Tpl.{Tpl}
-use Rattle.ell_layer.specs.declared.access.Access.TheVariants as access
-use Rattle.afl_layer.specs.declared.header.Auth.{Auth}
-use Rattle.message_check.specs.declared.signature.Signature.{Signature}
 use Rattle.message_check.specs.declared.refusal.Reason.{Reason}
-use Rattle.message_check.specs.Opening.{Found, access_in_configuration, decrypted5, rest_of, header_for, blocks_passed, some_passed, check_bytes_passed, access_number_passed, opened5, compared5, opened5_after, signature_of, derivation_passed, mac_key, cipher_key, mac_passed, counter_passed, decrypted7, opened7, compared7, opened7_after}
+use Rattle.message_check.specs.Opening.{Found, access_in_configuration, decrypted5, rest_of, header_for, blocks_passed, some_passed, check_bytes_passed, access_number_passed, opened5, compared5, opened5_after}
 
 -- the first two bytes alone are looked at
 front_alone : (a b : List ℕ) → 2 ≤ length a → check_bytes_passed (a ++ b) ≡ check_bytes_passed a
@@ -76,69 +73,3 @@ pub all_passed : (last : Option ℕ) (c : Commissioned) (m : List ℕ) (h : Tpl)
     → opened5_after last c m ≡ Ok f
 unfolding opened5_after compared5
 all_passed last c m h payload f d two number e1 e2 e3 = rw (is_opened c m h payload d two, ← number, ← e1, ← e2, ← e3) refl
-
--- ---- mode 7
-
-pub refused_header7 : (last : Option ℕ) (c : Commissioned) (auth : Auth) (m : List ℕ) (r : Reason) → Err r ≡ header_for c.address 7 m
-    → opened7_after last c auth m ≡ Err r
-unfolding opened7_after opened7
-refused_header7 last c auth m r header = rw (← header) refl
-
-pub refused_signature : (last : Option ℕ) (c : Commissioned) (auth : Auth) (m : List ℕ) (h : Tpl) (r : Reason)
-    → Ok h ≡ header_for c.address 7 m → Err r ≡ signature_of auth → opened7_after last c auth m ≡ Err r
-unfolding opened7_after opened7
-refused_signature last c auth m h r header signature = rw (← header, ← signature) refl
-
--- a header, and what authenticates the message
-pub record IsSigned (c : Commissioned) (auth : Auth) (m : List ℕ) (h : Tpl) (s : Signature) : Type 0 where
-  pub header : Ok h ≡ header_for c.address 7 m
-  pub signature : Ok s ≡ signature_of auth
-
-pub refused_derivation : (last : Option ℕ) (c : Commissioned) (auth : Auth) (m : List ℕ) (h : Tpl) (s : Signature) (r : Reason)
-    → IsSigned c auth m h s → Err r ≡ derivation_passed h → opened7_after last c auth m ≡ Err r
-unfolding opened7_after opened7
-refused_derivation last c auth m h s r is derivation = rw (← is.header, ← is.signature, ← derivation) refl
-
-pub refused_blocks7 : (last : Option ℕ) (c : Commissioned) (auth : Auth) (m : List ℕ) (h : Tpl) (s : Signature) (r : Reason)
-    → IsSigned c auth m h s → Ok tt ≡ derivation_passed h → Err r ≡ blocks_passed h m → opened7_after last c auth m ≡ Err r
-unfolding opened7_after opened7
-refused_blocks7 last c auth m h s r is derivation blocks = rw (← is.header, ← is.signature, ← derivation, ← blocks) refl
-
--- all that comes before the MAC
-pub record BeforeMac (c : Commissioned) (auth : Auth) (m : List ℕ) (h : Tpl) (s : Signature) (key : List ℕ) : Type 0 where
-  pub is : IsSigned c auth m h s
-  pub derivation : Ok tt ≡ derivation_passed h
-  pub blocks : Ok tt ≡ blocks_passed h m
-  pub key_is : key ≡ mac_key c h s.counter
-
-pub refused_mac : (last : Option ℕ) (c : Commissioned) (auth : Auth) (m : List ℕ) (h : Tpl) (s : Signature) (key : List ℕ) (r : Reason)
-    → BeforeMac c auth m h s key → Err r ≡ mac_passed key s m → opened7_after last c auth m ≡ Err r
-unfolding opened7_after opened7
-refused_mac last c auth m h s key r b mac =
-    let judged : Err r ≡ mac_passed (mac_key c h s.counter) s m = mac ∙ ap (λ k. mac_passed k s m) b.key_is
-    in rw (← b.is.header, ← b.is.signature, ← b.derivation, ← b.blocks, ← judged) refl
-
-is_genuine : (c : Commissioned) (auth : Auth) (m : List ℕ) (h : Tpl) (s : Signature) (key : List ℕ) → BeforeMac c auth m h s key
-    → Ok tt ≡ mac_passed key s m
-    → opened7 c auth m
-    ≡ Ok (record { counter = s.counter; access = access.None; payload = decrypted7 (cipher_key c h s.counter) h m ++ rest_of h m })
-unfolding opened7
-is_genuine c auth m h s key b mac =
-    let judged : Ok tt ≡ mac_passed (mac_key c h s.counter) s m = mac ∙ ap (λ k. mac_passed k s m) b.key_is
-    in rw (← b.is.header, ← b.is.signature, ← b.derivation, ← b.blocks, ← judged) refl
-
-pub refused_counter : (last : Option ℕ) (c : Commissioned) (auth : Auth) (m : List ℕ) (h : Tpl) (s : Signature) (key : List ℕ) (r : Reason)
-    → BeforeMac c auth m h s key → Ok tt ≡ mac_passed key s m → Err r ≡ counter_passed last s.counter
-    → opened7_after last c auth m ≡ Err r
-unfolding opened7_after compared7
-refused_counter last c auth m h s key r b mac counter = rw (is_genuine c auth m h s key b mac, ← counter) refl
-
-pub all_passed7 : (last : Option ℕ) (c : Commissioned) (auth : Auth) (m : List ℕ) (h : Tpl) (s : Signature) (key cipher payload : List ℕ)
-    → BeforeMac c auth m h s key → Ok tt ≡ mac_passed key s m → Ok tt ≡ counter_passed last s.counter
-    → cipher ≡ cipher_key c h s.counter → payload ≡ decrypted7 cipher h m ++ rest_of h m
-    → opened7_after last c auth m ≡ Ok (record { counter = s.counter; access = access.None; payload = payload })
-unfolding opened7_after compared7
-all_passed7 last c auth m h s key cipher payload b mac counter cipher_is payload_is =
-    let whole : payload ≡ decrypted7 (cipher_key c h s.counter) h m ++ rest_of h m =
-    payload_is ∙ ap (λ k. decrypted7 k h m ++ rest_of h m) cipher_is
-    in rw (is_genuine c auth m h s key b mac, ← counter, whole) refl

@@ -68,6 +68,7 @@ fn decrypt_for(cipher_key: &[u8; 16], tpl: &Tpl, message: &mut [u8])
 }
 
 // What a message says after another, or the first refusal.
+#[tactic(auto, unfolding(crate::specs::Opening::opened7, crate::specs::Opening::compared7, crate::specs::Opening::opened7_after))]
 fn open_message(
     keys: &MeterKeys,
     commission: &Commission,
