@@ -70,19 +70,25 @@ fn sessions_have_the_sums_of_those_that_another_program_made(rt: HostRuntime) {
     assert_made(
         &rt,
         rt.alloc(),
-        make(&rt, rt.alloc(), 12, 12, u64::MAX).ok().expect(&rt, NO_MEMORY),
+        make(&rt, rt.alloc(), 12, 12, u64::MAX)
+            .ok()
+            .expect(&rt, NO_MEMORY),
         "[5837248731763766459, 308444584303063913, 7796920245363957097, 17535504558341235817, 10797439522915604841]",
     );
     assert_made(
         &rt,
         rt.alloc(),
-        make(&rt, rt.alloc(), 1_024, 1_024, 5).ok().expect(&rt, NO_MEMORY),
+        make(&rt, rt.alloc(), 1_024, 1_024, 5)
+            .ok()
+            .expect(&rt, NO_MEMORY),
         "[16019460544907220942, 18310726344534927813, 390034841064595909, 10558574234139982021, 2216451740313554373]",
     );
     assert_made(
         &rt,
         rt.alloc(),
-        make(&rt, rt.alloc(), 50, 5_000, 7).ok().expect(&rt, NO_MEMORY),
+        make(&rt, rt.alloc(), 50, 5_000, 7)
+            .ok()
+            .expect(&rt, NO_MEMORY),
         "[323375960773539415, 11196092063435235550, 10614643397989392862, 7346833078433433310, 16530763729489478366]",
     );
 }

@@ -21,5 +21,11 @@ fn a_text_that_is_no_address_has_its_first_fault_named(rt: HostRuntime) {
         is_wrong_at(b"931502030104010 ", 15),
         is_wrong_at(b"9315020g0104g107", 7),
     );
-    assert_shown(&rt, rt.alloc(), &named, "(true, true, true, true, true)", "faults");
+    assert_shown(
+        &rt,
+        rt.alloc(),
+        &named,
+        "(true, true, true, true, true)",
+        "faults",
+    );
 }

@@ -84,4 +84,3 @@ impl Model for Commission {
       ids = v.ids;
     } };
 }
-

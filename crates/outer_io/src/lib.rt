@@ -17,4 +17,3 @@ pub use in_memory::{MemorySink, MemorySource};
 pub use sinks::{Sink, write_all};
 pub use sources::Source;
 pub use standard::{StdSink, StdSource};
-
