@@ -1,11 +1,10 @@
-use Rattle.std.proofs.Common.{◌≡◌, ◌∙◌, ◌<◌, ◌^◌, Bool, true, false, List, [], ◌∷◌, Result, Ok, Err, refl, sym, ap, subst, length, map, slice_index_or, slice_set, IsTrue, IsOk, IfOk, IfErr, arith, rules}
+use Rattle.std.proofs.Common.{◌≡◌, ◌∙◌, Bool, true, false, List, [], ◌∷◌, Result, Ok, Err, refl, sym, ap, subst, length, map, slice_index_or, slice_set, IsTrue, IsOk, IfOk, arith}
 use Rattle.lists.specs.Each.{Each}
 use Rattle.outer_io.specs.Shown.{Change, SourceShown}
 use Rattle.outer_io.specs.declared.sinks.Sink as sinks
 use Rattle.outer_io.specs.declared.sources.Source as sources
 use Rattle.receivers.specs.Receiver.{Receiving}
 use Rattle.receivers.specs.Run.{ReceiverRun, receiver_run, receiver_runs}
-use Rattle.wmbus_words.specs.Words.{IsInRange}
 use Rattle.wmbus_words.specs.declared.asked.Plan.{Plan}
 use Rattle.wmbus_words.specs.declared.asked.WordsFault.{WordsFault}
 use Rattle.collector_main.specs.declared.form.Form.{Form}
@@ -16,25 +15,9 @@ use Rattle.collector_main.specs.Run.{Run, Output, IsRun, IsCausedBy}
 use Rattle.collector_main.specs.Showing.{IsFresh, collects, asks_for_readings}
 use Rattle.collector_main.proofs.top.run.Goals as goal
 
--- what is said of the words' plan where they ask for one, and where they ask for nothing
+-- what is said of the words' plan, where they ask for this one
 of_plan : (Q : Plan → Type 0) (plan : Plan) (r : Result Plan WordsFault) → Ok plan ≡ r → Q plan → IfOk r Q
 of_plan Q plan r e h = subst (λ r. IfOk r Q) e h
-
-no_fault : (Q : WordsFault → Type 0) (plan : Plan) (r : Result Plan WordsFault) → Ok plan ≡ r → IfErr r Q
-no_fault Q plan r e = subst (λ r. IfErr r Q) e tt
-
-of_fault : (Q : WordsFault → Type 0) (fault : WordsFault) (r : Result Plan WordsFault) → Err fault ≡ r → Q fault → IfErr r Q
-of_fault Q fault r e h = subst (λ r. IfErr r Q) e h
-
-no_plan : (Q : Plan → Type 0) (fault : WordsFault) (r : Result Plan WordsFault) → Err fault ≡ r → IfOk r Q
-no_plan Q fault r e = subst (λ r. IfOk r Q) e tt
-
-isnt_false : (b : Bool) → true ≡ b → b ≡ false → ⊥
-isnt_false b one other = absurd cc
-
--- status 2 comes of no run
-no_words : (run : Run) (fault : WordsFault) → IsRun run → run.status ≡ statuses.Words fault → ⊥
-no_words run fault is same = subst (IsCausedBy run) same is.status_caused
 
 -- what is required of a plan, where the words ask for this one
 planned : (Q : Plan → Type 0) (plan : Plan) (r : Result Plan WordsFault) → Ok plan ≡ r → IfOk r Q → Q plan
@@ -43,8 +26,18 @@ planned Q plan r e h = subst (λ r. IfOk r Q) (sym e) h
 is_ok : (plan : Plan) (r : Result Plan WordsFault) → Ok plan ≡ r → IsOk r
 is_ok plan r e = subst (λ (r : Result Plan WordsFault). IsOk r) e refl
 
+isnt_false : (b : Bool) → true ≡ b → b ≡ false → ⊥
+isnt_false b one other = absurd cc
+
+-- status 2 comes of no run
+no_words : (run : Run) (fault : WordsFault) → IsRun run → run.status ≡ statuses.Words fault → ⊥
+no_words run fault is same = subst (IsCausedBy run) same is.status_caused
+
 no_words_made : (run : MadeRun) (fault : WordsFault) → IsMadeRun run → run.status ≡ statuses.Words fault → ⊥
 no_words_made run fault is same = subst (IsMadeCause run) same is.status_caused
+
+same_fault : (one other : WordsFault) (r : Result Plan WordsFault) → Err one ≡ r → statuses.Words one ≡ statuses.Words other → r ≡ Err other
+same_fault one other r e same = cc
 
 -- the one receiver of `hear`, among the receivers of the call
 one_of : (A : Type 0) (xs : List A) (a : A) → length xs ≡ 1 → a ≡ slice_index_or xs 0 a → xs ≡ a ∷ []
@@ -72,12 +65,6 @@ of_receivers tells told form beginning one other sends outputs status same is =
     subst (λ (rs : List ReceiverRun). IsRun (record { sources_tell = tells; sinks_tell = told; form = form; beginning = beginning;
       receivers = rs; sends = sends; outputs = outputs; status = status })) same is
 
-same_fault : (one other : WordsFault) (r : Result Plan WordsFault) → Err one ≡ r → statuses.Words one ≡ statuses.Words other → r ≡ Err other
-same_fault one other r e same = cc
-
-pub words-requires : goal.words-requires
-words-requires g c = tt
-
 pub index_mut-receiver-requires : goal.index_mut-receiver-requires
 index_mut-receiver-requires g c =
     let e = sym (c.in-Ok-Hear.is ∙ ap Ok c.in-Ok-Hear.field-0-is) ∙ c.words.ensures.exact in
@@ -94,297 +81,14 @@ hear_session-requires-clause-fresh g c =
 pub hear_session-requires-clause-empty : goal.hear_session-requires-clause-empty
 hear_session-requires-clause-empty g c = c.requires.empty
 
-pub collect_session-requires : goal.collect_session-requires
-collect_session-requires g c =
-    let e = sym (c.in-Ok-Collect.is ∙ ap Ok c.in-Ok-Collect.field-0-is) ∙ c.words.ensures.exact in
-    let few : c.args.receivers.now.len < 2 ^ 32 = search rules in
-    (c.type_bounds.send-S, (c.type_bounds.send-K, (c.type_bounds.sync-R, (few, (c.requires.fresh (is_ok _ _ e), λ tells. (
-      c.requires.empty_next (subst (λ (r : Result Plan WordsFault). IsTrue (collects r)) e refl) tells,
-      c.requires.empty_readings (subst (λ (r : Result Plan WordsFault). IsTrue (asks_for_readings r)) e refl) tells,
-      c.requires.empty tells,
-    ))))))
-
-pub collect_session-requires-in-Ok-Continue : goal.collect_session-requires-in-Ok-Continue
-collect_session-requires-in-Ok-Continue g c =
-    let e = sym (c.in-Ok-Continue.is ∙ ap Ok c.in-Ok-Continue.field-0-is) ∙ c.words.ensures.exact in
-    let few : c.args.receivers.now.len < 2 ^ 32 = search rules in
-    (c.type_bounds.send-S, (c.type_bounds.send-K, (c.type_bounds.sync-R, (few, (c.requires.fresh (is_ok _ _ e), λ tells. (
-      c.requires.empty_next (subst (λ (r : Result Plan WordsFault). IsTrue (collects r)) e refl) tells,
-      c.requires.empty_readings (subst (λ (r : Result Plan WordsFault). IsTrue (asks_for_readings r)) e refl) tells,
-      c.requires.empty tells,
-    ))))))
-
-pub made_session-requires : goal.made_session-requires
-made_session-requires g c =
-    let e = sym (c.in-Ok-Made.is ∙ ap Ok c.in-Ok-Made.field-0-is) ∙ c.words.ensures.exact in
-    let ranges = planned IsInRange _ _ (sym (c.in-Ok-Made.is ∙ ap Ok c.in-Ok-Made.field-0-is)) c.words.ensures.in_range in
-    (c.type_bounds.sync-R, (ranges.0, ((ranges.1, ranges.2), λ tells. (
-      c.requires.empty_readings (subst (λ (r : Result Plan WordsFault). IsTrue (asks_for_readings r)) e refl) tells,
-      c.requires.empty tells,
-    ))))
-
-pub returns-in-Err-clause-words : goal.returns-in-Err-clause-words
-returns-in-Err-clause-words g c =
-    let e = sym c.in-Err.is ∙ c.words.ensures.exact in
-    of_fault _ c.in-Err.fault _ e refl
-
 pub returns-in-Err-clause-only_words : goal.returns-in-Err-clause-only_words
 returns-in-Err-clause-only_words g c =
     let e = sym c.in-Err.is ∙ c.words.ensures.exact in
     λ fault same. same_fault c.in-Err.fault fault _ e same
 
-pub returns-in-Err-clause-run : goal.returns-in-Err-clause-run
-returns-in-Err-clause-run g c =
-    let e = sym c.in-Err.is ∙ c.words.ensures.exact in
-    no_plan _ c.in-Err.fault _ e
-
-pub returns-in-Err-clause-made : goal.returns-in-Err-clause-made
-returns-in-Err-clause-made g c =
-    let e = sym c.in-Err.is ∙ c.words.ensures.exact in
-    no_plan _ c.in-Err.fault _ e
-
-pub returns-in-Err-clause-beginning : goal.returns-in-Err-clause-beginning
-returns-in-Err-clause-beginning g c =
-    let e = sym c.in-Err.is ∙ c.words.ensures.exact in
-    of_fault _ c.in-Err.fault _ e refl
-
-pub returns-in-Err-clause-aside : goal.returns-in-Err-clause-aside
-returns-in-Err-clause-aside g c =
-    let e = sym c.in-Err.is ∙ c.words.ensures.exact in
-    no_plan _ c.in-Err.fault _ e
-
-pub returns-in-Err-clause-report : goal.returns-in-Err-clause-report
-returns-in-Err-clause-report g c =
-    let e = sym c.in-Err.is ∙ c.words.ensures.exact in
-    of_fault _ c.in-Err.fault _ e refl
-
-pub returns-in-Err-clause-unread : goal.returns-in-Err-clause-unread
-returns-in-Err-clause-unread g c =
-    λ _. refl
-
-pub returns-in-Err-clause-receivers : goal.returns-in-Err-clause-receivers
-returns-in-Err-clause-receivers g c =
-    λ _. refl
-
-pub returns-in-Err-clause-tx : goal.returns-in-Err-clause-tx
-returns-in-Err-clause-tx g c =
-    λ _. refl
-
-pub returns-in-Err-clause-next : goal.returns-in-Err-clause-next
-returns-in-Err-clause-next g c =
-    λ _. refl
-
-pub returns-in-Err-clause-readings : goal.returns-in-Err-clause-readings
-returns-in-Err-clause-readings g c =
-    λ _. refl
-
-pub returns-in-Ok-Hear-clause-words : goal.returns-in-Ok-Hear-clause-words
-returns-in-Ok-Hear-clause-words g c =
-    let e = sym (c.in-Ok-Hear.is ∙ ap Ok c.in-Ok-Hear.field-0-is) ∙ c.words.ensures.exact in
-    no_fault _ _ _ e
-
-pub returns-in-Ok-Hear-clause-beginning : goal.returns-in-Ok-Hear-clause-beginning
-returns-in-Ok-Hear-clause-beginning g c =
-    let e = sym (c.in-Ok-Hear.is ∙ ap Ok c.in-Ok-Hear.field-0-is) ∙ c.words.ensures.exact in
-    no_fault _ _ _ e
-
-pub returns-in-Ok-Hear-clause-report : goal.returns-in-Ok-Hear-clause-report
-returns-in-Ok-Hear-clause-report g c =
-    let e = sym (c.in-Ok-Hear.is ∙ ap Ok c.in-Ok-Hear.field-0-is) ∙ c.words.ensures.exact in
-    no_fault _ _ _ e
-
 pub returns-in-Ok-Hear-clause-only_words : goal.returns-in-Ok-Hear-clause-only_words
 returns-in-Ok-Hear-clause-only_words g c =
     λ fault same. absurd (no_words _ fault c.hear_session.ensures.run same)
-
-pub returns-in-Ok-Hear-clause-made : goal.returns-in-Ok-Hear-clause-made
-returns-in-Ok-Hear-clause-made g c =
-    let e = sym (c.in-Ok-Hear.is ∙ ap Ok c.in-Ok-Hear.field-0-is) ∙ c.words.ensures.exact in
-    of_plan _ _ _ e tt
-
-pub returns-in-Ok-Hear-clause-aside : goal.returns-in-Ok-Hear-clause-aside
-returns-in-Ok-Hear-clause-aside g c =
-    let e = sym (c.in-Ok-Hear.is ∙ ap Ok c.in-Ok-Hear.field-0-is) ∙ c.words.ensures.exact in
-    of_plan _ _ _ e tt
-
-pub returns-in-Ok-Hear-clause-receivers : goal.returns-in-Ok-Hear-clause-receivers
-returns-in-Ok-Hear-clause-receivers g c =
-    λ _. refl
-
-pub returns-in-Ok-Hear-clause-next : goal.returns-in-Ok-Hear-clause-next
-returns-in-Ok-Hear-clause-next g c =
-    λ _. refl
-
-pub returns-in-Ok-Hear-clause-readings : goal.returns-in-Ok-Hear-clause-readings
-returns-in-Ok-Hear-clause-readings g c =
-    λ _. refl
-
-pub returns-in-Ok-Collect-clause-words : goal.returns-in-Ok-Collect-clause-words
-returns-in-Ok-Collect-clause-words g c =
-    let e = sym (c.in-Ok-Collect.is ∙ ap Ok c.in-Ok-Collect.field-0-is) ∙ c.words.ensures.exact in
-    no_fault _ _ _ e
-
-pub returns-in-Ok-Collect-clause-beginning : goal.returns-in-Ok-Collect-clause-beginning
-returns-in-Ok-Collect-clause-beginning g c =
-    let e = sym (c.in-Ok-Collect.is ∙ ap Ok c.in-Ok-Collect.field-0-is) ∙ c.words.ensures.exact in
-    no_fault _ _ _ e
-
-pub returns-in-Ok-Collect-clause-report : goal.returns-in-Ok-Collect-clause-report
-returns-in-Ok-Collect-clause-report g c =
-    let e = sym (c.in-Ok-Collect.is ∙ ap Ok c.in-Ok-Collect.field-0-is) ∙ c.words.ensures.exact in
-    no_fault _ _ _ e
-
-pub returns-in-Ok-Collect-clause-only_words : goal.returns-in-Ok-Collect-clause-only_words
-returns-in-Ok-Collect-clause-only_words g c =
-    λ fault same. absurd (no_words _ fault c.collect_session.ensures.run same)
-
-pub returns-in-Ok-Collect-clause-made : goal.returns-in-Ok-Collect-clause-made
-returns-in-Ok-Collect-clause-made g c =
-    let e = sym (c.in-Ok-Collect.is ∙ ap Ok c.in-Ok-Collect.field-0-is) ∙ c.words.ensures.exact in
-    of_plan _ _ _ e tt
-
-pub returns-in-Ok-Collect-clause-aside : goal.returns-in-Ok-Collect-clause-aside
-returns-in-Ok-Collect-clause-aside g c =
-    let e = sym (c.in-Ok-Collect.is ∙ ap Ok c.in-Ok-Collect.field-0-is) ∙ c.words.ensures.exact in
-    of_plan _ _ _ e tt
-
-pub returns-in-Ok-Collect-clause-run : goal.returns-in-Ok-Collect-clause-run
-returns-in-Ok-Collect-clause-run g c =
-    let e = sym (c.in-Ok-Collect.is ∙ ap Ok c.in-Ok-Collect.field-0-is) ∙ c.words.ensures.exact in
-    of_plan _ _ _ e (λ _. c.collect_session.ensures.run)
-
-pub returns-in-Ok-Collect-clause-unread : goal.returns-in-Ok-Collect-clause-unread
-returns-in-Ok-Collect-clause-unread g c =
-    c.collect_session.ensures.unread
-
-pub returns-in-Ok-Collect-clause-receivers : goal.returns-in-Ok-Collect-clause-receivers
-returns-in-Ok-Collect-clause-receivers g c =
-    let e = sym (c.in-Ok-Collect.is ∙ ap Ok c.in-Ok-Collect.field-0-is) ∙ c.words.ensures.exact in
-    λ h. c.collect_session.ensures.receivers (h (subst (λ (r : Result Plan WordsFault). IsTrue (collects r)) e refl))
-
-pub returns-in-Ok-Collect-clause-tx : goal.returns-in-Ok-Collect-clause-tx
-returns-in-Ok-Collect-clause-tx g c =
-    let e = sym (c.in-Ok-Collect.is ∙ ap Ok c.in-Ok-Collect.field-0-is) ∙ c.words.ensures.exact in
-    λ test. absurd (isnt_false _ (ap collects e) test)
-
-pub returns-in-Ok-Collect-clause-next : goal.returns-in-Ok-Collect-clause-next
-returns-in-Ok-Collect-clause-next g c =
-    let e = sym (c.in-Ok-Collect.is ∙ ap Ok c.in-Ok-Collect.field-0-is) ∙ c.words.ensures.exact in
-    λ test. absurd (isnt_false _ (ap collects e) test)
-
-pub returns-in-Ok-Collect-clause-readings : goal.returns-in-Ok-Collect-clause-readings
-returns-in-Ok-Collect-clause-readings g c =
-    let e = sym (c.in-Ok-Collect.is ∙ ap Ok c.in-Ok-Collect.field-0-is) ∙ c.words.ensures.exact in
-    λ test. absurd (isnt_false _ (ap asks_for_readings e) test)
-
-pub returns-in-Ok-Continue-clause-words : goal.returns-in-Ok-Continue-clause-words
-returns-in-Ok-Continue-clause-words g c =
-    let e = sym (c.in-Ok-Continue.is ∙ ap Ok c.in-Ok-Continue.field-0-is) ∙ c.words.ensures.exact in
-    no_fault _ _ _ e
-
-pub returns-in-Ok-Continue-clause-beginning : goal.returns-in-Ok-Continue-clause-beginning
-returns-in-Ok-Continue-clause-beginning g c =
-    let e = sym (c.in-Ok-Continue.is ∙ ap Ok c.in-Ok-Continue.field-0-is) ∙ c.words.ensures.exact in
-    no_fault _ _ _ e
-
-pub returns-in-Ok-Continue-clause-report : goal.returns-in-Ok-Continue-clause-report
-returns-in-Ok-Continue-clause-report g c =
-    let e = sym (c.in-Ok-Continue.is ∙ ap Ok c.in-Ok-Continue.field-0-is) ∙ c.words.ensures.exact in
-    no_fault _ _ _ e
-
-pub returns-in-Ok-Continue-clause-only_words : goal.returns-in-Ok-Continue-clause-only_words
-returns-in-Ok-Continue-clause-only_words g c =
-    λ fault same. absurd (no_words _ fault c.collect_session-in-Ok-Continue.ensures.run same)
-
-pub returns-in-Ok-Continue-clause-made : goal.returns-in-Ok-Continue-clause-made
-returns-in-Ok-Continue-clause-made g c =
-    let e = sym (c.in-Ok-Continue.is ∙ ap Ok c.in-Ok-Continue.field-0-is) ∙ c.words.ensures.exact in
-    of_plan _ _ _ e tt
-
-pub returns-in-Ok-Continue-clause-aside : goal.returns-in-Ok-Continue-clause-aside
-returns-in-Ok-Continue-clause-aside g c =
-    let e = sym (c.in-Ok-Continue.is ∙ ap Ok c.in-Ok-Continue.field-0-is) ∙ c.words.ensures.exact in
-    of_plan _ _ _ e tt
-
-pub returns-in-Ok-Continue-clause-run : goal.returns-in-Ok-Continue-clause-run
-returns-in-Ok-Continue-clause-run g c =
-    let e = sym (c.in-Ok-Continue.is ∙ ap Ok c.in-Ok-Continue.field-0-is) ∙ c.words.ensures.exact in
-    of_plan _ _ _ e (λ _. c.collect_session-in-Ok-Continue.ensures.run)
-
-pub returns-in-Ok-Continue-clause-unread : goal.returns-in-Ok-Continue-clause-unread
-returns-in-Ok-Continue-clause-unread g c =
-    c.collect_session-in-Ok-Continue.ensures.unread
-
-pub returns-in-Ok-Continue-clause-receivers : goal.returns-in-Ok-Continue-clause-receivers
-returns-in-Ok-Continue-clause-receivers g c =
-    let e = sym (c.in-Ok-Continue.is ∙ ap Ok c.in-Ok-Continue.field-0-is) ∙ c.words.ensures.exact in
-    λ h. c.collect_session-in-Ok-Continue.ensures.receivers (h (subst (λ (r : Result Plan WordsFault). IsTrue (collects r)) e refl))
-
-pub returns-in-Ok-Continue-clause-tx : goal.returns-in-Ok-Continue-clause-tx
-returns-in-Ok-Continue-clause-tx g c =
-    let e = sym (c.in-Ok-Continue.is ∙ ap Ok c.in-Ok-Continue.field-0-is) ∙ c.words.ensures.exact in
-    λ test. absurd (isnt_false _ (ap collects e) test)
-
-pub returns-in-Ok-Continue-clause-next : goal.returns-in-Ok-Continue-clause-next
-returns-in-Ok-Continue-clause-next g c =
-    let e = sym (c.in-Ok-Continue.is ∙ ap Ok c.in-Ok-Continue.field-0-is) ∙ c.words.ensures.exact in
-    λ test. absurd (isnt_false _ (ap collects e) test)
-
-pub returns-in-Ok-Continue-clause-readings : goal.returns-in-Ok-Continue-clause-readings
-returns-in-Ok-Continue-clause-readings g c =
-    let e = sym (c.in-Ok-Continue.is ∙ ap Ok c.in-Ok-Continue.field-0-is) ∙ c.words.ensures.exact in
-    λ test. absurd (isnt_false _ (ap asks_for_readings e) test)
-
-pub returns-in-Ok-Made-clause-words : goal.returns-in-Ok-Made-clause-words
-returns-in-Ok-Made-clause-words g c =
-    let e = sym (c.in-Ok-Made.is ∙ ap Ok c.in-Ok-Made.field-0-is) ∙ c.words.ensures.exact in
-    no_fault _ _ _ e
-
-pub returns-in-Ok-Made-clause-beginning : goal.returns-in-Ok-Made-clause-beginning
-returns-in-Ok-Made-clause-beginning g c =
-    let e = sym (c.in-Ok-Made.is ∙ ap Ok c.in-Ok-Made.field-0-is) ∙ c.words.ensures.exact in
-    no_fault _ _ _ e
-
-pub returns-in-Ok-Made-clause-report : goal.returns-in-Ok-Made-clause-report
-returns-in-Ok-Made-clause-report g c =
-    let e = sym (c.in-Ok-Made.is ∙ ap Ok c.in-Ok-Made.field-0-is) ∙ c.words.ensures.exact in
-    no_fault _ _ _ e
-
-pub returns-in-Ok-Made-clause-run : goal.returns-in-Ok-Made-clause-run
-returns-in-Ok-Made-clause-run g c =
-    let e = sym (c.in-Ok-Made.is ∙ ap Ok c.in-Ok-Made.field-0-is) ∙ c.words.ensures.exact in
-    of_plan _ _ _ e (λ one. absurd (isnt_false false (sym one) refl))
-
-pub returns-in-Ok-Made-clause-made : goal.returns-in-Ok-Made-clause-made
-returns-in-Ok-Made-clause-made g c =
-    let e = sym (c.in-Ok-Made.is ∙ ap Ok c.in-Ok-Made.field-0-is) ∙ c.words.ensures.exact in
-    of_plan _ _ _ e c.made_session.ensures
-
-pub returns-in-Ok-Made-clause-aside : goal.returns-in-Ok-Made-clause-aside
-returns-in-Ok-Made-clause-aside g c =
-    let e = sym (c.in-Ok-Made.is ∙ ap Ok c.in-Ok-Made.field-0-is) ∙ c.words.ensures.exact in
-    of_plan _ _ _ e (refl, refl)
-
-pub returns-in-Ok-Made-clause-unread : goal.returns-in-Ok-Made-clause-unread
-returns-in-Ok-Made-clause-unread g c =
-    λ _. refl
-
-pub returns-in-Ok-Made-clause-receivers : goal.returns-in-Ok-Made-clause-receivers
-returns-in-Ok-Made-clause-receivers g c =
-    λ _. refl
-
-pub returns-in-Ok-Made-clause-tx : goal.returns-in-Ok-Made-clause-tx
-returns-in-Ok-Made-clause-tx g c =
-    λ _. refl
-
-pub returns-in-Ok-Made-clause-next : goal.returns-in-Ok-Made-clause-next
-returns-in-Ok-Made-clause-next g c =
-    λ _. refl
-
-pub returns-in-Ok-Made-clause-readings : goal.returns-in-Ok-Made-clause-readings
-returns-in-Ok-Made-clause-readings g c =
-    let e = sym (c.in-Ok-Made.is ∙ ap Ok c.in-Ok-Made.field-0-is) ∙ c.words.ensures.exact in
-    λ test. absurd (isnt_false _ (ap asks_for_readings e) test)
 
 pub returns-in-Ok-Hear-clause-run : goal.returns-in-Ok-Hear-clause-run
 returns-in-Ok-Hear-clause-run g c =
@@ -406,6 +110,74 @@ returns-in-Ok-Hear-clause-tx g c =
     let one = one_of _ c.args.receivers.now.items c.index_mut-receiver.result.now
     (sym c.args.receivers.now.ok.0 ∙ planned _ _ _ e c.requires.count) c.index_mut-receiver.ensures.value in
     λ _. same_of _ _ (λ r. r.tx) _ _ _ one c.hear_session.ensures.tx
+
+pub returns-in-Ok-Collect-clause-only_words : goal.returns-in-Ok-Collect-clause-only_words
+returns-in-Ok-Collect-clause-only_words g c =
+    λ fault same. absurd (no_words _ fault c.collect_session.ensures.run same)
+
+pub returns-in-Ok-Collect-clause-run : goal.returns-in-Ok-Collect-clause-run
+returns-in-Ok-Collect-clause-run g c =
+    let e = sym (c.in-Ok-Collect.is ∙ ap Ok c.in-Ok-Collect.field-0-is) ∙ c.words.ensures.exact in
+    of_plan _ _ _ e (λ _. c.collect_session.ensures.run)
+
+pub returns-in-Ok-Collect-clause-receivers : goal.returns-in-Ok-Collect-clause-receivers
+returns-in-Ok-Collect-clause-receivers g c =
+    let e = sym (c.in-Ok-Collect.is ∙ ap Ok c.in-Ok-Collect.field-0-is) ∙ c.words.ensures.exact in
+    λ h. c.collect_session.ensures.receivers (h (subst (λ (r : Result Plan WordsFault). IsTrue (collects r)) e refl))
+
+pub returns-in-Ok-Collect-clause-tx : goal.returns-in-Ok-Collect-clause-tx
+returns-in-Ok-Collect-clause-tx g c =
+    let e = sym (c.in-Ok-Collect.is ∙ ap Ok c.in-Ok-Collect.field-0-is) ∙ c.words.ensures.exact in
+    λ test. absurd (isnt_false _ (ap collects e) test)
+
+pub returns-in-Ok-Collect-clause-next : goal.returns-in-Ok-Collect-clause-next
+returns-in-Ok-Collect-clause-next g c =
+    let e = sym (c.in-Ok-Collect.is ∙ ap Ok c.in-Ok-Collect.field-0-is) ∙ c.words.ensures.exact in
+    λ test. absurd (isnt_false _ (ap collects e) test)
+
+pub returns-in-Ok-Collect-clause-readings : goal.returns-in-Ok-Collect-clause-readings
+returns-in-Ok-Collect-clause-readings g c =
+    let e = sym (c.in-Ok-Collect.is ∙ ap Ok c.in-Ok-Collect.field-0-is) ∙ c.words.ensures.exact in
+    λ test. absurd (isnt_false _ (ap asks_for_readings e) test)
+
+pub returns-in-Ok-Continue-clause-only_words : goal.returns-in-Ok-Continue-clause-only_words
+returns-in-Ok-Continue-clause-only_words g c =
+    λ fault same. absurd (no_words _ fault c.collect_session-in-Ok-Continue.ensures.run same)
+
+pub returns-in-Ok-Continue-clause-run : goal.returns-in-Ok-Continue-clause-run
+returns-in-Ok-Continue-clause-run g c =
+    let e = sym (c.in-Ok-Continue.is ∙ ap Ok c.in-Ok-Continue.field-0-is) ∙ c.words.ensures.exact in
+    of_plan _ _ _ e (λ _. c.collect_session-in-Ok-Continue.ensures.run)
+
+pub returns-in-Ok-Continue-clause-receivers : goal.returns-in-Ok-Continue-clause-receivers
+returns-in-Ok-Continue-clause-receivers g c =
+    let e = sym (c.in-Ok-Continue.is ∙ ap Ok c.in-Ok-Continue.field-0-is) ∙ c.words.ensures.exact in
+    λ h. c.collect_session-in-Ok-Continue.ensures.receivers (h (subst (λ (r : Result Plan WordsFault). IsTrue (collects r)) e refl))
+
+pub returns-in-Ok-Continue-clause-tx : goal.returns-in-Ok-Continue-clause-tx
+returns-in-Ok-Continue-clause-tx g c =
+    let e = sym (c.in-Ok-Continue.is ∙ ap Ok c.in-Ok-Continue.field-0-is) ∙ c.words.ensures.exact in
+    λ test. absurd (isnt_false _ (ap collects e) test)
+
+pub returns-in-Ok-Continue-clause-next : goal.returns-in-Ok-Continue-clause-next
+returns-in-Ok-Continue-clause-next g c =
+    let e = sym (c.in-Ok-Continue.is ∙ ap Ok c.in-Ok-Continue.field-0-is) ∙ c.words.ensures.exact in
+    λ test. absurd (isnt_false _ (ap collects e) test)
+
+pub returns-in-Ok-Continue-clause-readings : goal.returns-in-Ok-Continue-clause-readings
+returns-in-Ok-Continue-clause-readings g c =
+    let e = sym (c.in-Ok-Continue.is ∙ ap Ok c.in-Ok-Continue.field-0-is) ∙ c.words.ensures.exact in
+    λ test. absurd (isnt_false _ (ap asks_for_readings e) test)
+
+pub returns-in-Ok-Made-clause-made : goal.returns-in-Ok-Made-clause-made
+returns-in-Ok-Made-clause-made g c =
+    let e = sym (c.in-Ok-Made.is ∙ ap Ok c.in-Ok-Made.field-0-is) ∙ c.words.ensures.exact in
+    of_plan _ _ _ e c.made_session.ensures
+
+pub returns-in-Ok-Made-clause-readings : goal.returns-in-Ok-Made-clause-readings
+returns-in-Ok-Made-clause-readings g c =
+    let e = sym (c.in-Ok-Made.is ∙ ap Ok c.in-Ok-Made.field-0-is) ∙ c.words.ensures.exact in
+    λ test. absurd (isnt_false _ (ap asks_for_readings e) test)
 
 pub returns-in-Ok-Made-clause-only_words : goal.returns-in-Ok-Made-clause-only_words
 returns-in-Ok-Made-clause-only_words g c =
