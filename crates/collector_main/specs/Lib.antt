@@ -6,5 +6,4 @@ pub mod Ready
 pub mod Run
 pub mod Showing
 pub mod Statuses
-pub mod Words
 pub mod MacLaw

@@ -4,9 +4,9 @@ use Rattle.outer_io.specs.Shown.{Change, SinkShown}
 use Rattle.receivers.specs.Receiver.{Receiving}
 use Rattle.collector_main.specs.declared.form.Form.{Form}
 use Rattle.collector_main.specs.declared.form.Form.TheVariants as forms
-use Rattle.collector_main.specs.declared.command_words.Plan.{Plan}
-use Rattle.collector_main.specs.declared.command_words.Plan.TheVariants as plans
-use Rattle.collector_main.specs.declared.command_words.WordsFault.{WordsFault}
+use Rattle.wmbus_words.specs.declared.asked.Plan.{Plan}
+use Rattle.wmbus_words.specs.declared.asked.Plan.TheVariants as plans
+use Rattle.wmbus_words.specs.declared.asked.WordsFault.{WordsFault}
 use Rattle.collector_main.specs.Heard.{report_of, next_of, readings_of}
 use Rattle.collector_main.specs.MadeRun.{made_outputs}
 use Rattle.collector_main.specs.Run.{Output}

@@ -10,11 +10,10 @@ ghost use Rattle.collector_main.specs.Run.{IsRun};
 ghost use Rattle.collector_main.specs.Showing.{IsFresh, IfMade, form_of, receiver_count, hears, collects};
 ghost use Rattle.collector_main.specs.Showing.{asks_for_readings, sends_downlinks, outputs_of};
 ghost use Rattle.collector_main.specs.Statuses.{IsUnread};
-ghost use Rattle.collector_main.specs.Words.{plan_of};
-ghost use Rattle.collector_main.specs.declared.command_words.WordsFault.{WordsFault};
+ghost use Rattle.wmbus_words.specs.Words.{plan_of};
+ghost use Rattle.wmbus_words.specs.declared.asked.WordsFault.{WordsFault};
 
 use crate::collecting::collect_session;
-use crate::command_words::{Plan, words};
 use crate::form::Form;
 use crate::making::made_session;
 use crate::session::hear_session;
@@ -24,6 +23,7 @@ use receivers::Receiver;
 use std::alloc::Global;
 use std::sync::Wait;
 use std::thread::Threads;
+use wmbus_words::{Plan, words};
 
 /// Runs what the words ask for, over sources and sinks. For `hear` the receiver is the one of the vector; `next` and
 /// `readings` stay as they are, and so does the receiver's `tx`. For `collect` and `continue` all receivers of the vector are heard at once,

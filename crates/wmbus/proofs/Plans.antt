@@ -2,16 +2,16 @@
 use Rattle.std.proofs.Common.{ℕ, zero, suc, ◌≡◌, ◌⊎◌, ◌+◌, ◌-◌, ◌*◌, ◌/◌, ◌==◌, ◌≤◌, List, [], ◌∷◌, Bool, true, false, cond, Option, Some, None, Result, Ok, Err, length, inl, inr, refl, sym, ap, subst, ◌∙◌, ◌^◌, IfOk, arith}
 use Rattle.std.proofs.lemmas.Bool.Decides.{nat_tests}
 use Rattle.std.specs.Prelude.{codes}
-use Rattle.collector_main.specs.declared.command_words.Asked.TheVariants as asks
-use Rattle.collector_main.specs.declared.command_words.Plan.{Plan}
-use Rattle.collector_main.specs.declared.command_words.Plan.TheVariants as plans
-use Rattle.collector_main.specs.declared.command_words.StepsPlan.{StepsPlan}
-use Rattle.collector_main.specs.declared.command_words.WordsFault.{WordsFault}
-use Rattle.collector_main.specs.declared.command_words.WordsFault.TheVariants as faults
+use Rattle.wmbus_words.specs.declared.asked.Asked.TheVariants as asks
+use Rattle.wmbus_words.specs.declared.asked.Plan.{Plan}
+use Rattle.wmbus_words.specs.declared.asked.Plan.TheVariants as plans
+use Rattle.wmbus_words.specs.declared.asked.StepsPlan.{StepsPlan}
+use Rattle.wmbus_words.specs.declared.asked.WordsFault.{WordsFault}
+use Rattle.wmbus_words.specs.declared.asked.WordsFault.TheVariants as faults
 use Rattle.plain_text.specs.Parts.{is_word}
 use Rattle.lists.specs.Steps.{◌>>=◌}
-use Rattle.collector_main.specs.Words.{is_count, unless_clash, first_clash, number_at, hear_plan, receivers_in, made_plan, plan_of}
-use Rattle.collector_main.specs.Words.{asked_of, steps_plan}
+use Rattle.wmbus_words.specs.Words.{is_count, unless_clash, first_clash, number_at, hear_plan, receivers_in, made_plan, plan_of}
+use Rattle.wmbus_words.specs.Words.{asked_of, steps_plan}
 
 -- the number of a plan's words, and of its receivers
 abbrev pub IsCounted : ℕ → Plan → Type 0

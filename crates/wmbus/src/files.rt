@@ -4,17 +4,18 @@ ghost use Rattle.std.specs.String.{string_bytes};
 ghost use Rattle.std.specs.Process.{exit_status};
 ghost use Rattle.lists.specs.Each.{Each};
 ghost use Rattle.collector_main.specs.Showing.{IsFresh, receiver_count};
-ghost use Rattle.collector_main.specs.Words.{plan_of};
+ghost use Rattle.wmbus_words.specs.Words.{plan_of};
 ghost use Rattle.wmbus.specs.Exit.{IsUnopened};
 
 use crate::nodes::{differ, next_differs, room_of};
 use crate::session::end;
 use crate::watched::WatchedSource;
-use collector_main::{Plan, Receiver, Status, StepsPlan};
+use collector_main::{Receiver, Status};
 use outer_io::{StdSink, StdSource};
 use program_words::{open_to_read, open_to_write};
 use std::fs::{File, Files};
 use std::process::ExitCode;
+use wmbus_words::{Plan, StepsPlan};
 
 const PROGRAM: &str = "wmbus";
 

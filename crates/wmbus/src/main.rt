@@ -4,7 +4,7 @@
 ghost use Rattle.std.specs.Prelude.{◌≡◌, false, true, Ok, IfOk, IfErr, map, length};
 ghost use Rattle.std.specs.String.{string_bytes};
 ghost use Rattle.std.specs.Process.{exit_status};
-ghost use Rattle.collector_main.specs.Words.{asked_of, plan_of};
+ghost use Rattle.wmbus_words.specs.Words.{asked_of, plan_of};
 ghost use Rattle.program_words.specs.OwnTexts.{asks_for_text, IsTold};
 ghost use Rattle.wmbus.specs.Exit.{IsExitOf, IsSessionExit, IsStepsExit};
 
@@ -14,7 +14,7 @@ mod session;
 mod stepwise;
 mod watched;
 
-use collector_main::{Asked, Plan, Status, StepsPlan, WordsFault, asks_for};
+use collector_main::Status;
 use files::{Opened, StepsFiles, open_apart, open_steps_apart};
 use line_reader::TextReader;
 use outer_io::{StdSink, StdSource};
@@ -26,6 +26,7 @@ use std::sync::Wait;
 use std::thread::Threads;
 use steps_main::LINE_MAX;
 use stepwise::step_over;
+use wmbus_words::{Asked, Plan, StepsPlan, WordsFault, asks_for};
 
 const HELP: &str = "wmbus: a collector for wireless M-Bus and OMS meters
 

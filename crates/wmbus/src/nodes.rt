@@ -3,10 +3,10 @@ ghost use Rattle.std.specs.Prelude.{IfErr};
 ghost use Rattle.std.specs.Process.{exit_status};
 ghost use Rattle.wmbus.specs.Exit.{IsUnopened};
 
-use collector_main::{Plan, StepsPlan, is_written};
 use std::fs::{File, Files};
 use std::os::unix::fs::MetadataExt;
 use std::process::ExitCode;
+use wmbus_words::{Plan, StepsPlan, is_written};
 
 /// Where a regular file lies, whatever names it.
 #[derive(Clone, Copy, PartialEq, Eq)]

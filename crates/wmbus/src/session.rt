@@ -12,7 +12,7 @@ ghost use Rattle.collector_main.specs.Run.{IsRun};
 ghost use Rattle.collector_main.specs.Showing.{IsFresh, IfMade, form_of, receiver_count, hears, collects};
 ghost use Rattle.collector_main.specs.Showing.{asks_for_readings, sends_downlinks, outputs_of};
 ghost use Rattle.collector_main.specs.Statuses.{code_of};
-ghost use Rattle.collector_main.specs.Words.{plan_of};
+ghost use Rattle.wmbus_words.specs.Words.{plan_of};
 ghost use Rattle.wmbus.specs.Exit.{IsSessionExit};
 
 use collector_main::{Receiver, Status, run};

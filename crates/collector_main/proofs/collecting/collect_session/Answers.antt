@@ -50,7 +50,7 @@ returns-clause-unread g c =
     let wrote = c.write_outputs-writes.ensures in
     let few : length c.args.receivers.now.items < 2 ^ 32 = search rules in
     let known : Known = record { own = c.own-own.result; starts = c.into_starts.result.items } in
-    λ unread. absurd (together_heard g.S.Source g.K.Sink c.args.form (source_change g.S.Source c.args.beginning.now c.known.new.source)
+    λ unread. absurd {A = c.hear_together.new.receivers.items ≡ c.args.receivers.now.items} (together_heard g.S.Source g.K.Sink c.args.form (source_change g.S.Source c.args.beginning.now c.known.new.source)
     (sink_change g.K.Sink c.args.next.now c.write_outputs-writes.new.next)
     (sink_change g.K.Sink c.args.readings.now c.write_outputs-writes.new.readings)
     (sink_change g.K.Sink c.args.report.now c.write_outputs-writes.new.report_sink)
