@@ -57,13 +57,37 @@ one_run s k xs a new is = subst (λ xs. receiver_run s k a new ∷ [] ≡ receiv
 
 of_receivers : (tells told : Bool) (form : Form) (beginning : Change SourceShown) (one other : List ReceiverRun) (sends : Bool)
     (outputs : List Output) (status : Status) → one ≡ other
-    → IsRun (record { sources_tell = tells; sinks_tell = told; form = form; beginning = beginning; receivers = one;
-      sends = sends; outputs = outputs; status = status })
-    → IsRun (record { sources_tell = tells; sinks_tell = told; form = form; beginning = beginning; receivers = other;
-      sends = sends; outputs = outputs; status = status })
+    → IsRun (record {
+      sources_tell = tells;
+      sinks_tell = told;
+      form = form;
+      beginning = beginning;
+      receivers = one;
+      sends = sends;
+      outputs = outputs;
+      status = status;
+    })
+    → IsRun (record {
+      sources_tell = tells;
+      sinks_tell = told;
+      form = form;
+      beginning = beginning;
+      receivers = other;
+      sends = sends;
+      outputs = outputs;
+      status = status;
+    })
 of_receivers tells told form beginning one other sends outputs status same is =
-    subst (λ (rs : List ReceiverRun). IsRun (record { sources_tell = tells; sinks_tell = told; form = form; beginning = beginning;
-      receivers = rs; sends = sends; outputs = outputs; status = status })) same is
+    subst (λ (rs : List ReceiverRun). IsRun (record {
+      sources_tell = tells;
+      sinks_tell = told;
+      form = form;
+      beginning = beginning;
+      receivers = rs;
+      sends = sends;
+      outputs = outputs;
+      status = status;
+    })) same is
 
 pub index_mut-receiver-requires : goal.index_mut-receiver-requires
 index_mut-receiver-requires g c =

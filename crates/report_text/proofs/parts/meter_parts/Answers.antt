@@ -23,7 +23,7 @@ push_reserved-requires c =
 pub loop-slot-preserved : goal.loop-slot-preserved
 loop-slot-preserved c = (
   one_more meter_text c.args.slots.now c.loop-slot.slot-index c.slot-item.result c.loop-slot.parts.items c.push_reserved.new.self.items
-  c.new.result c.loop-slot-test.true c.loop-slot.invariant.0 c.slot-item.is c.new.ensures c.push_reserved.ensures.items,
+      c.new.result c.loop-slot-test.true c.loop-slot.invariant.0 c.slot-item.is c.new.ensures c.push_reserved.ensures.items,
   c.push_reserved.ensures.capacity ∙ c.loop-slot.invariant.1,
 )
 
