@@ -29,6 +29,8 @@ from .processes import PATIENCE, certificate_of, started, until
 from .test_sessions import house_fixture  # noqa: F401
 
 SERVICE = Path(__file__).resolve().parents[1]
+# more slow connections than a page has places
+COUNT_SLOW = 120
 # what a client of TLS sends first: a record's head, and then nothing
 HALF_A_HANDSHAKE = bytes.fromhex("160301020001")
 # the service on a machine whose localhost has two addresses, as Debian's /etc/hosts gives it
@@ -247,6 +249,60 @@ def test_requests_without_end(page: PageHouse, tmp_path: Path, is_with_tls: bool
                     asked.sendall(end)
             assert sent < 1024
         assert ("<h1>Enter</h1>" if trust else "All meters") in fetched(it, trust)
+
+
+def drips(trust: ssl.SSLContext | None) -> list[bytes]:
+    """What goes on without an end where a byte comes at a time: a handshake, a request's head, and its body; with TLS what stands behind
+    the handshake is what is sent within."""
+    incoming, outgoing = ssl.MemoryBIO(), ssl.MemoryBIO()
+    if trust:
+        with suppress(ssl.SSLWantReadError):
+            trust.wrap_bio(incoming, outgoing, server_hostname="127.0.0.1").do_handshake()
+    head = b"Host: 127.0.0.1\r\nX: "
+    form = b"POST /enter HTTP/1.1\r\nHost: 127.0.0.1\r\nContent-Type: application/x-www-form-urlencoded\r\nContent-Length: 60000\r\n\r\n"
+    return [*([outgoing.read()] if trust else []), b"GET /enter HTTP/1.1\r\n" + head + b"a" * 1000, form + b"a" * 1000]
+
+
+@pytest.mark.parametrize("is_with_tls", [False, True])
+def test_slow_connections(page: PageHouse, tmp_path: Path, is_with_tls: bool) -> None:
+    """More connections than it has places, over each of which a handshake, a head or a body comes byte by byte, keep nobody else from the
+    page, and each is ended after seconds."""
+    words, trust = with_tls(tmp_path) if is_with_tls else ("port = 0\n", None)
+    kinds = drips(trust)
+    with served(page, words + with_token(tmp_path)) as it, ExitStack() as opened:
+        port, slow, over = it.port(), list[tuple[socket.socket, bytes]](), threading.Event()
+        for number in range(COUNT_SLOW):
+            plain = opened.enter_context(socket.create_connection(("127.0.0.1", port), PATIENCE))
+            text, is_handshake = kinds[number % len(kinds)], bool(trust) and number % len(kinds) == 0
+            with suppress(OSError):
+                tls = trust.wrap_socket(plain, server_hostname="127.0.0.1") if trust and not is_handshake else plain
+                begun = text.index(b"\r\n\r\n") + 4 if b"POST" in text else 1
+                tls.sendall(text[:begun])
+                slow.append((opened.enter_context(tls), text[begun:]))
+
+        def drip() -> None:
+            for place in range(1000):
+                for connection, text in slow:
+                    with suppress(OSError):
+                        connection.sendall(text[place:place + 1])
+                if over.wait(0.2):
+                    return
+
+        def is_ended(connection: socket.socket) -> bool:
+            try:
+                return not connection.recv(1000) or is_ended(connection)
+            except TimeoutError:
+                return False
+            except OSError:
+                return True
+        opened.callback(over.set)
+        threading.Thread(target=drip, daemon=True).start()
+        before = time.monotonic()
+        assert ("<h1>Enter</h1>" if trust else "All meters") in fetched(it, trust) and time.monotonic() - before < 8
+        time.sleep(2 * serving.SECONDS)
+        for connection, _ in slow:
+            connection.settimeout(0.1)
+        assert len(slow) > serving.THREADS and all(is_ended(connection) for connection, _ in slow) and "Traceback" not in it.said()
 
 
 def test_silent_connections(page: PageHouse, tmp_path: Path) -> None:

@@ -1,7 +1,13 @@
 """A server with TLS: what is wrong with a connection ends that one alone, and keeps nobody else waiting."""
 from __future__ import annotations
 
-from contextlib import suppress
+import errno
+import socket
+import ssl
+import threading
+import time
+from collections.abc import Iterator
+from contextlib import contextmanager, suppress
 from typing import Any
 
 from cheroot.server import HTTPConnection
@@ -12,14 +18,106 @@ from ..config import Page
 from .app import MOST_BODY, MOST_HEAD
 
 ENVIRONMENT = {"wsgi.url_scheme": "https", "HTTPS": "on"}
+# connections that are served at once; each has a thread, which mostly waits
+PLACES = 64
+# in bytes a second, an answer may be taken so slowly
+SLOWEST = 4096
+
+
+class Places:
+    """The places of the connections that are served. Where all are taken that connection of those that others wait for ends for a new one
+    whose time is over first."""
+
+    def __init__(self) -> None:
+        self.lock = threading.Lock()
+        self.taken = 0
+        self.awaited: set[InTime] = set()
+
+    def take(self) -> None:
+        """A connection comes."""
+        with self.lock:
+            self.taken += 1
+            if self.taken > PLACES and self.awaited:
+                first = min(self.awaited, key=lambda it: it.until)
+                self.awaited.discard(first)
+                with suppress(OSError):
+                    socket.socket.shutdown(first, socket.SHUT_RDWR)
+
+    def leave(self) -> None:
+        """A connection ends, or has no request now."""
+        with self.lock:
+            self.taken -= 1
+
+    @contextmanager
+    def wait(self, connection: InTime) -> Iterator[None]:
+        """A connection waits for its other side."""
+        with self.lock:
+            self.awaited.add(connection)
+        try:
+            yield
+        finally:
+            with self.lock:
+                self.awaited.discard(connection)
+
+
+class InTime(ssl.SSLSocket):
+    """A connection that has some seconds for handshake and request, by whatever pieces they come, and for an answer as many beside those
+    that its length takes."""
+
+    places: Places
+    seconds = until = 0.0
+    is_answered = False
+
+    def begin(self) -> None:
+        """From here on a request has its time."""
+        self.until, self.is_answered = time.monotonic() + self.seconds, False
+
+    @contextmanager
+    def _waited(self) -> Iterator[None]:
+        left = self.until - time.monotonic()
+        try:
+            if left <= 0:
+                raise TimeoutError("timed out")
+            self.settimeout(left)
+            with self.places.wait(self):
+                yield
+        except OSError as fault:
+            # (of such a fault the server says nothing in the log)
+            raise ConnectionResetError(errno.ECONNRESET, str(fault)) from None
+
+    def do_handshake(self, *given: Any) -> None:
+        """Makes the handshake."""
+        with self._waited():
+            super().do_handshake(*given)
+
+    def recv_into(self, *given: Any) -> int:
+        """Reads."""
+        with self._waited():
+            return super().recv_into(*given)
+
+    def send(self, data: Any, *given: Any) -> int:
+        """Writes."""
+        if not self.is_answered:
+            self.begin()
+            self.is_answered = True
+        self.until += len(data) / SLOWEST
+        with self._waited():
+            return super().send(data, *given)
 
 
 class Adapter(BuiltinSSLAdapter):
     """Makes connections those of TLS, whose handshake is left to the thread that serves them: here all others would wait for it."""
 
+    def __init__(self, page: Page, seconds: float) -> None:
+        super().__init__(page.certificate, page.key)
+        self.places, self.seconds = Places(), seconds
+        self.context.sslsocket_class = InTime
+
     def wrap(self, sock: Any) -> tuple[Any, dict[str, str]]:
         """The connection of TLS, and what an application hears of it."""
-        return self.context.wrap_socket(sock, server_side=True, do_handshake_on_connect=False), dict(ENVIRONMENT)
+        made = self.context.wrap_socket(sock, server_side=True, do_handshake_on_connect=False)
+        made.places, made.seconds = self.places, self.seconds
+        return made, dict(ENVIRONMENT)
 
 
 class Connection(HTTPConnection):
@@ -29,10 +127,13 @@ class Connection(HTTPConnection):
         """Answers what is asked; whether the connection stays. (A handshake that was made isn't made again.)"""
         inner: Any = super()
         try:
+            self.socket.begin()
             self.socket.do_handshake()
             return bool(inner.communicate())
         except OSError:
             return False
+        finally:
+            self.socket.places.leave()
 
     def close(self) -> None:
         """Ends the connection."""
@@ -41,10 +142,20 @@ class Connection(HTTPConnection):
             inner.close()
 
 
-def server_of(app: object, page: Page, threads: int) -> Any:
-    """The server, which doesn't listen yet."""
-    server: Any = Server((page.host, page.port), app, numthreads=threads, server_name="wmbus")
-    server.ssl_adapter = Adapter(page.certificate, page.key)
+class PageServer(Server):
+    """A server whose connections have their places."""
+
+    def process_conn(self, conn: Any) -> None:
+        """Has a thread serve a connection."""
+        conn.socket.places.take()
+        inner: Any = super()
+        inner.process_conn(conn)
+
+
+def server_of(app: object, page: Page, seconds: float) -> Any:
+    """The server, which doesn't listen yet. A request has so many seconds."""
+    server: Any = PageServer((page.host, page.port), app, numthreads=PLACES, server_name="wmbus")
+    server.ssl_adapter = Adapter(page, seconds)
     server.ConnectionClass = Connection
     server.max_request_header_size, server.max_request_body_size = MOST_HEAD, MOST_BODY
     return server
