@@ -536,6 +536,33 @@ def test_retention_and_a_wrong_clock(house: House) -> None:
     assert house.all("select day, value from daily") == [("1970-01-01", "3")]
 
 
+def test_retention_and_a_clock_that_jumps(house: House, monkeypatch: pytest.MonkeyPatch, caplog: pytest.LogCaptureFixture) -> None:
+    """A clock that is years ahead for an hour takes nothing with it, and one that isn't set neither; the log says so, and status. Where it
+    stays there, what is kept no longer goes by a day further with each hour."""
+    now = [NOW]
+    monkeypatch.setattr("time.time", lambda: now[0])
+    served, words = Service(house.config, house.database), "the clock of this machine went forward by"
+
+    def kept(hours: float) -> list[int]:
+        """Of which readings the payloads are there, where the service goes on for so long."""
+        served.let_go_at, served.ages.looked = 0.0, served.ages.looked - hours * 3600
+        served.turn()
+        return house.all("select counter from reading where payload is not null order by id")
+    for day in range(5):
+        now[0] = NOW + day * DAY
+        house.spool(house.whole(house.meters[0]))
+        assert len(kept(24)) == day + 1 and words not in caplog.text
+    with closing(os.fdopen(service.lock(house.config.folder))):
+        for wrong, is_told in ((NOW + 5000 * DAY, True), (NOW + 5000 * DAY + 3600, True), (1000.0, False), (NOW + 4 * DAY + 7200, False)):
+            now[0] = wrong
+            assert kept(0.5) == [1, 2, 3, 4, 5] and len(house.all("select number from line")) == 5
+            assert (words in status.status(house.config, False)) is is_told
+    assert caplog.text.count(f"{words} 4995 days") == 1
+    now[0] = NOW + 63 * DAY
+    assert all(kept(1) == [1, 2, 3, 4, 5] for _ in range(55))
+    assert [kept(1) for _ in range(5)] == [[2, 3, 4, 5], [3, 4, 5], [4, 5], [4, 5], [4, 5]]
+
+
 def test_what_retention_costs(house: House) -> None:
     """To look for what is kept no longer costs no more the more is kept: a session waits for it, and so do all that write."""
     rows = [(number, number, "m", number, int(NOW), None, "00", None, 0, NOW + number) for number in range(1, 5001)]

@@ -11,7 +11,7 @@ from typing import Any
 from . import service, store
 from .asking import Database
 from .config import Config
-from .retention import HEARD
+from .retention import DAY, HEARD, seconds_behind, went_forward
 from .sensors import NUMBER
 from .spool import size_of
 
@@ -24,8 +24,11 @@ def figures(config: Config, database: sqlite3.Connection) -> dict[str, Any]:
     """All that is told, as data."""
     now = time.time()
     meters = database.execute("select address, name, waits, holds, receiver from meter order by place").fetchall()
+    is_running = service.is_locked(config.folder)
     return {
-        "running": service.is_locked(config.folder),
+        "running": is_running,
+        # (where it doesn't run nothing is let go, and no clock does harm)
+        "clock_went_forward": round(seconds_behind(database, now)) if is_running else 0,
         "totals": dict(database.execute("select name, value from total order by name").fetchall()),
         "meters": [meter(database, row, now) for row in meters],
         "commands": _rows(database, "select id, address, kind, state, tries, reason from command"
@@ -79,6 +82,8 @@ def waiting_bytes(config: Config, database: Database) -> int:
 def in_words(told: dict[str, Any]) -> Iterator[str]:
     """The figures line by line."""
     yield "the service runs" if told["running"] else "the service doesn't run: systemctl start wmbus"
+    if told["clock_went_forward"] > DAY:
+        yield went_forward(told["clock_went_forward"])
     totals = told["totals"]
     yield f"{totals.get('lines', 0)} lines heard, {totals.get('stored', 0)} readings; {told['spooled_bytes']} bytes wait in the spool"
     for it in told["meters"]:
