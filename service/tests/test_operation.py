@@ -494,17 +494,32 @@ def test_days_that_were_heard_late(house: House) -> None:
 
 @pytest.mark.parametrize("piece", [1, 1000])
 def test_what_flowed_backward_in_a_later_piece(house: House, monkeypatch: pytest.MonkeyPatch, piece: int) -> None:
-    """Of a day the volume stays, and not what flowed backward, also where that one was heard later, and goes later: in a large house each
-    reading of a day goes with others."""
+    """Of a day the last values stay of the volume and of what flowed backward, whichever goes later: in a large house each reading of a day
+    goes with others."""
     monkeypatch.setattr(retention, "PIECE", piece)
     meter = house.meters[0]
-    for counter, payload in ((1, "0c1306000000"), (2, "0c1307000000"), (3, "0c933c05000000")):
+    for counter, payload in enumerate(("0c933c03000000", "0c1306000000", "0c1307000000", "0c933c04000000", "0c933c05000000"), 1):
         text = b"\x2f\x2f" + bytes.fromhex(payload)
         house.spool(line_of(messages.whole(meter.key, meter.address, counter, text, 0x44, None), 100))
         house.hear(NOW + counter)
     while retention.let_go(house.database, Keep(readings=1), NOW + 2 * DAY):
         pass
-    assert house.all("select value from daily") == ["7"]
+    assert house.all("select value, modifiers from daily order by value") == [("5", "3c"), ("7", "")]
+
+
+def test_days_of_an_earlier_version(tmp_path: Path, monkeypatch: pytest.MonkeyPatch) -> None:
+    """The values of days that a database of version 1 has are there in this version, as those of registers without modifiers; others come
+    beside them, each with its own."""
+    path, day = tmp_path / "wmbus.db", ("a", "2026-01-31", "volume", "m3", -3, "7", "instantaneous", 0, 0, 0)
+    with monkeypatch.context() as earlier:
+        earlier.setattr(schema, "MIGRATIONS", schema.MIGRATIONS[:1])
+        earlier.setattr(schema, "VERSION", 1)
+        with closing(store.open_store(path, is_new=True)) as database:
+            database.execute(f"insert into daily values (?{', ?' * 9})", day)
+    with closing(store.open_store(path)) as database:
+        assert database.execute("select * from daily").fetchall() == [(*day, "")]
+        database.execute(f"insert into daily values (?{', ?' * 9}, '3c')", day)
+        assert database.execute("pragma integrity_check").fetchone() == ("ok",)
 
 
 def test_retention_beside_lines(house: House) -> None:

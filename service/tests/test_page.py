@@ -143,7 +143,7 @@ def test_months_of_days_alone(page: PageHouse) -> None:
     """Months whose readings are gone are counted by the last values of their days."""
     address = page.addresses[0]
     for day, litres in (("2026-09-30", 100), ("2026-10-15", 150), ("2026-10-31", 190), ("2026-11-30", 260)):
-        page.write("insert into daily values (?, ?, 'volume', 'm3', -3, ?, 'instantaneous', 0, 0, 0)", address, day, str(litres))
+        page.write("insert into daily values (?, ?, 'volume', 'm3', -3, ?, 'instantaneous', 0, 0, 0, '')", address, day, str(litres))
     page.volume(address, NOW - 60, 400)
     told = page.client().get(f"/api/meters/{address}").json
     assert told
@@ -613,6 +613,9 @@ def test_page_as_a_file(page: PageHouse, tmp_path: Path) -> None:
     refused = run([f"{TOP}/bin/keep_readings", words[3], file], check=False, env=os.environ | {"READING_LIST": "/bin/true"})
     assert refused.returncode == 1 and "which keeps its readings itself" in refused.stderr
     assert (service_tables.APPLICATION, service_tables.VERSION) == (schema.APPLICATION, schema.VERSION)
+    # a copy of an earlier version is shown too
+    page.write("pragma user_version = 1")
+    assert run(words).returncode == 0
 
 
 def test_words_of_the_guide() -> None:

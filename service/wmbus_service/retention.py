@@ -22,7 +22,7 @@ NOTED = 600.0
 PIECE = 1000
 # when a reading was heard, as the page tells it: by its receiver's clock, where that one has a time that isn't after its session's
 HEARD = "case when moment between 100000000 and made + 3600 then moment else made end"
-VALUES = "address, quantity, unit, exponent, value, function, storage, tariff, subunit"
+VALUES = "address, quantity, unit, exponent, value, function, storage, tariff, subunit, modifiers"
 
 
 class Ages:
@@ -101,12 +101,9 @@ def _gather_days(database: sqlite3.Connection, before: float) -> int:
     with transaction(database):
         rows = database.execute("select id from reading where made < ? order by made, id limit ?", (before, PIECE)).fetchall()
         oldest = [ident for (ident,) in rows]
-        chosen = (f"into daily (day, {VALUES}) select date({HEARD}, 'unixepoch'), {VALUES} from"
-                  " (select value as ident from json_each(?)) cross join reading on reading.id = ident"
-                  " cross join record on record.reading = reading.id where modifiers")
-        # (what has modifiers takes no place of what has none, also where that one went before)
-        database.execute(f"insert or ignore {chosen} != '' order by reading.id desc, record.place", (json.dumps(oldest),))
         # (what stays of several is written last: what stands first in the day's last reading)
-        database.execute(f"insert or replace {chosen} = '' order by reading.id, record.place desc", (json.dumps(oldest),))
+        database.execute(f"insert or replace into daily (day, {VALUES}) select date({HEARD}, 'unixepoch'), {VALUES} from"
+                         " (select value as ident from json_each(?)) cross join reading on reading.id = ident"
+                         " cross join record on record.reading = reading.id order by reading.id, record.place desc", (json.dumps(oldest),))
         database.executemany("delete from reading where id = ?", [(ident,) for ident in oldest])
         return len(oldest)

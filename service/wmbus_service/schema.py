@@ -52,6 +52,18 @@ create table aside (id integer primary key, receiver text, text text not null, s
 create table total (name text primary key, value integer not null) without rowid;
 """
 
+# a register of a day is told apart by its unit and its modifiers too; of what is kept already these aren't known, and it counts for one
+# without any
+DAYS = """
+alter table daily rename to daily_of_before;
+create table daily (
+    address text, day text, quantity text, unit text, exponent integer, value text, function text, storage integer, tariff integer,
+    subunit integer, modifiers text,
+    primary key (address, day, quantity, unit, function, storage, tariff, subunit, modifiers)) without rowid;
+insert into daily select address, day, quantity, unit, exponent, value, function, storage, tariff, subunit, '' from daily_of_before;
+drop table daily_of_before;
+"""
+
 # the statements that make of version N the version N + 1
-MIGRATIONS = (FIRST,)
+MIGRATIONS = (FIRST, DAYS)
 VERSION = len(MIGRATIONS)
