@@ -14,10 +14,10 @@ from contextlib import closing, suppress
 from pathlib import Path
 
 import pytest
-from wmbus_service import exporting, retention, schema, sensors
+from wmbus_service import exporting, retention, schema, sensors, store
 from wmbus_service.config import Keep
-from wmbus_service.page import radios, reading, views
-from wmbus_service.status import status
+from wmbus_service.page import looks, radios, reading, views
+from wmbus_service.status import figures, status
 
 import frames
 import messages
@@ -137,6 +137,21 @@ def test_replaced_meter(page: PageHouse) -> None:
     assert told
     assert [(row["period"], row["amount"], row["note"]) for row in told["used"][0]["by"]["day"]] == [
         ("2027-01-14", "0.005", ""), ("2027-01-13", "0.020", ""), ("2027-01-12", "0", "reset or replaced"), ("2027-01-11", "0.100", "")]
+
+
+def test_what_commands_cost(page: PageHouse) -> None:
+    """What the overview and status say of commands and downlinks costs no more the more of them are done: these stay for ever."""
+    database, steps = page.house.database, list[None]()
+    with store.transaction(database):
+        for number in range(20_000):
+            database.execute("insert into command (id, address, kind, payload, state, made, changed) values (?, ?, 'send', '', 'confirmed', 0, ?)",
+                             (f"a{number}", page.addresses[0], NOW))
+            database.execute("insert into outbox (receiver, address, down, frame, command, made, sent) values ('', ?, ?, '', 1, ?, 1)",
+                             (page.addresses[0], number, NOW))
+    database.set_progress_handler(lambda: steps.append(None), 100)
+    assert len(looks.all_looks(page.house.config, database, [], [], NOW)) == 1 and not figures(page.house.config, database)["commands"]
+    database.set_progress_handler(None, 0)
+    assert len(steps) * 100 < 20_000
 
 
 def test_months_of_days_alone(page: PageHouse) -> None:

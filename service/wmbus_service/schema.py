@@ -64,6 +64,12 @@ insert into daily select address, day, quantity, unit, exponent, value, function
 drop table daily_of_before;
 """
 
+# what went wrong is found without a look at all that went right
+FAILED = """
+create index command_failed on command (changed) where state in ('expired', 'refused');
+create index outbox_missed on outbox (id) where missed is not null;
+"""
+
 # the statements that make of version N the version N + 1
-MIGRATIONS = (FIRST, DAYS)
+MIGRATIONS = (FIRST, DAYS, FAILED)
 VERSION = len(MIGRATIONS)

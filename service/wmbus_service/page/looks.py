@@ -131,7 +131,7 @@ def _of_service(config: Config, database: Database) -> Iterator[Look]:
 def _of_commands(database: Database, titles: dict[str, str], now: float) -> Iterator[Look]:
     """Commands that were given up, and downlinks that didn't go out."""
     for row in rows_of(database, "select id, address, state, reason from command where state in ('expired', 'refused') and changed > ?"
-                                 " order by rowid desc limit ?", (now - RECENT, MOST)):
+                                 " order by changed desc limit ?", (now - RECENT, MOST)):
         words = "given up" if row["state"] == "expired" else "refused"
         yield Look("look", f"command {words}", titles.get(row["address"], row["address"]), f"/meters/{row['address']}",
                    f"Command {row['id']}: {row['reason'] or STATES[row['state']]}. Queue it again once the meter is in reach.")
