@@ -144,8 +144,8 @@ def test_what_commands_cost(page: PageHouse) -> None:
     database, steps = page.house.database, list[None]()
     with store.transaction(database):
         for number in range(20_000):
-            database.execute("insert into command (id, address, kind, payload, state, made, changed) values (?, ?, 'send', '', 'confirmed', 0, ?)",
-                             (f"a{number}", page.addresses[0], NOW))
+            database.execute("insert into command (id, address, kind, payload, state, made, changed)"
+                             " values (?, ?, 'send', '', 'confirmed', 0, ?)", (f"a{number}", page.addresses[0], NOW))
             database.execute("insert into outbox (receiver, address, down, frame, command, made, sent) values ('', ?, ?, '', 1, ?, 1)",
                              (page.addresses[0], number, NOW))
     database.set_progress_handler(lambda: steps.append(None), 100)

@@ -16,6 +16,7 @@ from prometheus_client.registry import Collector
 
 from . import store
 from .config import Config, Metrics
+from .status import oldest_publication
 from .trouble import Trouble
 
 if TYPE_CHECKING:
@@ -35,6 +36,7 @@ COUNTERS = {
     "downlinks": "downlinks made",
     "aside": "lines at which the program failed",
     "sessions": "sessions that were committed",
+    "publications_left_out": "messages that weren't published, since too many waited and later ones of their topics did",
 }
 GAUGES = {
     "meters": ("meters that are known", "select count(*) from meter"),
@@ -68,6 +70,8 @@ class Figures(Collector):
             yield counter
         for name, (words, query) in GAUGES.items():
             yield GaugeMetricFamily(f"wmbus_{name}", words, value=database.execute(query).fetchone()[0])
+        yield GaugeMetricFamily("wmbus_publications_oldest_seconds", "since the oldest message that the broker hasn't acknowledged waits",
+                                value=oldest_publication(database, time.time()))
         yield GaugeMetricFamily("wmbus_session_age_seconds", "since the service last looked for lines",
                                 value=time.monotonic() - self.service.session_made)
         yield GaugeMetricFamily("wmbus_trouble", "1 where sessions stand still, and the log says why",

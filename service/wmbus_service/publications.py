@@ -2,12 +2,19 @@
 from __future__ import annotations
 
 import json
+import logging
 import sqlite3
+import time
 from typing import Any
 
 from .config import Mqtt
 from .sensors import Kind, kind_of, name_of, shown
-from .store import set_setting, setting, transaction
+from .store import add_total, set_setting, setting, transaction
+
+log = logging.getLogger("wmbus")
+
+# a hundredth more than may be waits at times, so that not each session looks
+SHARE = 100
 
 
 class Publications:
@@ -59,7 +66,34 @@ class Publications:
                   json.dumps(sensor(self.mqtt, address, label or address, record, kind), sort_keys=True, ensure_ascii=False), True)
 
     def _put(self, topic: str, payload: str, retain: bool) -> None:
-        self.database.execute("insert into publication (topic, payload, retain) values (?, ?, ?)", (topic, payload, retain))
+        self.database.execute("insert into publication (topic, payload, retain, made) values (?, ?, ?, ?)",
+                              (topic, payload, retain, time.time()))
+
+
+class Waiting:
+    """What waits for a broker that is away: the last messages, and of those before the last of each topic alone. So each sensor and each
+    meter's last value is there when it returns, and the disk isn't filled."""
+
+    def __init__(self, mqtt: Mqtt | None, database: sqlite3.Connection) -> None:
+        self.most, self.database = mqtt.waiting if mqtt else 0, database
+        self.looked, self.is_told = 0, False
+
+    def bound(self) -> None:
+        """Leaves out what is too much, within a session's transaction."""
+        first, last = self.database.execute("select (select min(id) from publication), (select max(id) from publication)").fetchone()
+        if not self.most or last is None or last - first < self.most:
+            self.is_told = False
+            return
+        if last - self.looked < self.most // SHARE:
+            return
+        self.looked = last
+        count = self.database.execute("delete from publication where id <= ? and exists (select 1 from publication as later"
+                                      " where later.topic = publication.topic and later.id > publication.id)", (last - self.most,)).rowcount
+        add_total(self.database, "publications_left_out", count)
+        if count and not self.is_told:
+            log.warning("MQTT: more than mqtt.waiting, %d messages, wait for the broker: of those before them the last one of each topic alone"
+                        " stays, and all readings in the database", self.most)
+            self.is_told = True
 
 
 def announce_anew(mqtt: Mqtt, database: sqlite3.Connection) -> None:

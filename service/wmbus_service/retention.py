@@ -59,8 +59,8 @@ def seconds_behind(database: sqlite3.Connection, now: float) -> float:
 
 def went_forward(seconds: float) -> str:
     """What is said of it."""
-    return (f"the clock of this machine went forward by {seconds // DAY:.0f} days: by it old lines and readings go only a day further each hour;"
-            " where it is wrong, set it right")
+    return (f"the clock of this machine went forward by {seconds // DAY:.0f} days: by it old lines and readings go only a day further each"
+            " hour; where it is wrong, set it right")
 
 
 def let_go(database: sqlite3.Connection, keep: Keep, now: float, clock: float | None = None) -> int:

@@ -70,6 +70,12 @@ create index command_failed on command (changed) where state in ('expired', 'ref
 create index outbox_missed on outbox (id) where missed is not null;
 """
 
+# since when a message waits, and which is the last one of its topic
+WAITING = """
+alter table publication add column made real;
+create index publication_of_topic on publication (topic);
+"""
+
 # the statements that make of version N the version N + 1
-MIGRATIONS = (FIRST, DAYS, FAILED)
+MIGRATIONS = (FIRST, DAYS, FAILED, WAITING)
 VERSION = len(MIGRATIONS)

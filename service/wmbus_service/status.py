@@ -40,6 +40,7 @@ def figures(config: Config, database: sqlite3.Connection) -> dict[str, Any]:
                                      f" order by times desc limit {LAST}"),
         "aside": _rows(database, f"select id, receiver, text, said from aside order by id desc limit {LAST}"),
         "publications_waiting": database.execute("select count(*) from publication").fetchone()[0],
+        "publications_oldest_seconds": round(oldest_publication(database, now)),
         "spooled_bytes": waiting_bytes(config, database),
     }
 
@@ -73,6 +74,12 @@ def shown(value: str, exponent: int) -> str:
     return f"{Decimal(f'{value}E{exponent}'):f}" if NUMBER.fullmatch(value) else value
 
 
+def oldest_publication(database: Database, now: float) -> float:
+    """For how many seconds the message for the broker that waits longest has waited."""
+    row = database.execute("select made from publication order by id limit 1").fetchone()
+    return max(0.0, now - float(row[0])) if row and row[0] is not None else 0.0
+
+
 def waiting_bytes(config: Config, database: Database) -> int:
     """How many bytes of lines no session has taken yet."""
     taken = dict(database.execute("select file, taken from source").fetchall())
@@ -103,7 +110,9 @@ def in_words(told: dict[str, Any]) -> Iterator[str]:
     for it in told["aside"]:
         yield f"set aside, since the program fails at it: line {it['id']} of {it['receiver'] or 'the service'}: {it['said']}"
     if told["publications_waiting"]:
-        yield f"{told['publications_waiting']} messages wait for the MQTT broker"
+        yield (f"{told['publications_waiting']} messages wait for the MQTT broker, the oldest for"
+               f" {told['publications_oldest_seconds'] // 3600} hours; {totals.get('publications_left_out', 0)} were left out,"
+               " since later ones of their topics waited")
 
 
 def status(config: Config, is_json: bool) -> str:
