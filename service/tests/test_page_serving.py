@@ -196,6 +196,27 @@ def test_elsewhere_with_tls(page: PageHouse, tmp_path: Path) -> None:
         assert it.ended() == 0, it.said()
 
 
+def test_a_renewed_certificate(page: PageHouse, tmp_path: Path) -> None:
+    """A certificate that was renewed counts at the next connection; while it and its key don't fit, and where they can't be read, that of
+    before does, and it is said once."""
+    (tmp_path / "new").mkdir()
+    words, before = with_tls(tmp_path)
+    certificate, key = certificate_of(tmp_path / "new")
+    after = ssl.create_default_context(cafile=str(certificate))
+    with served(page, words + with_token(tmp_path)) as it:
+        assert "<h1>Enter</h1>" in fetched(it, before)
+        os.replace(certificate, tmp_path / "certificate")
+        for _ in range(3):
+            assert "<h1>Enter</h1>" in fetched(it, before)
+        assert it.said().count("TLS goes on with the certificate of before") == 1, it.said()
+        os.replace(key, tmp_path / "key")
+        assert "<h1>Enter</h1>" in fetched(it, after)
+        with pytest.raises(OSError):
+            fetched(it, before)
+        (tmp_path / "certificate").unlink()
+        assert "<h1>Enter</h1>" in fetched(it, after) and "Traceback" not in it.said()
+
+
 def test_a_port_that_is_taken(page: PageHouse, tmp_path: Path) -> None:
     """It ends, and names the port, with TLS too."""
     with socket.create_server(("127.0.0.1", 0)) as taken:

@@ -2,6 +2,8 @@
 from __future__ import annotations
 
 import errno
+import logging
+import os
 import socket
 import ssl
 import threading
@@ -16,6 +18,8 @@ from cheroot.wsgi import Server
 
 from ..config import Page
 from .app import MOST_BODY, MOST_HEAD
+
+log = logging.getLogger("wmbus")
 
 ENVIRONMENT = {"wsgi.url_scheme": "https", "HTTPS": "on"}
 # connections that are served at once; each has a thread, which mostly waits
@@ -108,13 +112,40 @@ class InTime(ssl.SSLSocket):
 class Adapter(BuiltinSSLAdapter):
     """Makes connections those of TLS, whose handshake is left to the thread that serves them: here all others would wait for it."""
 
+    said = ""
+
     def __init__(self, page: Page, seconds: float) -> None:
+        self.page, self.places, self.seconds = page, Places(), seconds
+        self.read = self._files()
         super().__init__(page.certificate, page.key)
-        self.places, self.seconds = Places(), seconds
         self.context.sslsocket_class = InTime
+
+    def _files(self) -> list[tuple[int, int, int]]:
+        """By what it is seen that a certificate or key was renewed, or may be read now."""
+        told = [os.stat(path) for path in (self.page.certificate, self.page.key)]
+        return [(it.st_ino, it.st_size, it.st_ctime_ns) for it in told]
+
+    def _renew(self) -> None:
+        """Takes a certificate that was renewed since the last connection; as long as it can't be taken that of before counts."""
+        try:
+            if self.read == (found := self._files()):
+                return
+            self.read = found
+            context = ssl.create_default_context(ssl.Purpose.CLIENT_AUTH)
+            # (nobody is there who could be asked for the password of a key)
+            context.load_cert_chain(self.page.certificate, self.page.key, password="")
+            context.sslsocket_class = InTime
+            self.context = context
+            log.info("the certificate was renewed")
+        except OSError as fault:
+            # (a file that is gone for a moment is looked for again)
+            if self.said != (said := str(fault)):
+                self.said = said
+                log.warning("TLS goes on with the certificate of before: %s", said)
 
     def wrap(self, sock: Any) -> tuple[Any, dict[str, str]]:
         """The connection of TLS, and what an application hears of it."""
+        self._renew()
         made = self.context.wrap_socket(sock, server_side=True, do_handshake_on_connect=False)
         made.places, made.seconds = self.places, self.seconds
         return made, dict(ENVIRONMENT)
