@@ -23,11 +23,14 @@ from wmbus_service.commands import put_command
 from wmbus_service.config import Config, Metrics, Mqtt, Programs
 from wmbus_service.ending import Ending
 from wmbus_service.page import looks
+from wmbus_service.publications import announce_anew
 from wmbus_service.sensors import KINDS, kind_of, shown
 from wmbus_service.trouble import Trouble
 
+import messages
 from . import servers
 from .kill import TOP, Child
+from .meters import line_of
 from .processes import PATIENCE, certificate_of, free_port, run, until
 from .servers import Listener, Mosquitto
 from .test_sessions import House, house_fixture  # noqa: F401
@@ -407,6 +410,28 @@ def test_sensors_members(house: House, mosquitto: Mosquitto) -> None:
     assert told["state_topic"] == f"wmbus/meter/{meter.name}" and told["value_template"] == "{{ value_json.volume }}"
     assert served.heard(str(told["state_topic"]))[0]["volume"] == 0.001
     served.end()
+
+
+def test_a_meter_that_changes_its_unit(house: House) -> None:
+    """A sensor has one unit for ever: a value in another one has a sensor of its own, also in the same message, after a start with other
+    topics, and where a database of before doesn't know in which unit it told of the first one."""
+    meter, place = house.meters[0], f"homeassistant/sensor/wmbus_{house.meters[0].name}"
+    house.database.execute("insert into announced (address, name) values (?, 'energy')", (meter.name,))
+    told: list[tuple[str, Any, Any]] = []
+    for counter, payload in enumerate(("040607000000", "040e19000000", "040608000000" "040e1d000000", "040e20000000"), 1):
+        text = b"\x2f\x2f" + bytes.fromhex(payload)
+        house.spool(line_of(messages.whole(meter.key, meter.address, counter, text, 0x44, None), 100))
+        mqtt = Mqtt(topic="wmbus" if counter < 4 else "other")
+        announce_anew(mqtt, house.database)
+        session.Sessions(replace(house.config, mqtt=mqtt), house.database).next(1000.0)
+        for topic, it in [(topic, json.loads(it)) for topic, it in house.all("select topic, payload from publication order by id")]:
+            told += [(topic, it["unit_of_measurement"], it["value_template"])] if topic.endswith("config") else [
+                (topic, it.get("energy"), it.get("energy_MJ"))]
+        house.database.execute("delete from publication")
+    energy = (f"{place}/energy/config", "kWh", "{{ value_json.energy }}")
+    joules = (f"{place}/energy_MJ/config", "MJ", "{{ value_json.energy_MJ }}")
+    topic = f"wmbus/meter/{meter.name}"
+    assert told == [energy, (topic, 7, None), joules, (topic, None, 25), (topic, 8, 29), joules, (topic.replace("wmbus", "other", 1), None, 32)]
 
 
 def test_sensors_at_another_broker_or_topic(house: House, tmp_path: Path) -> None:

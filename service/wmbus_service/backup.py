@@ -165,7 +165,7 @@ def _give_up(config: Config, database: sqlite3.Connection, now: float) -> None:
     database.execute("update outbox set missed = 'restored' where sent is null and missed is null")
     # (the broker has later messages than the copy's; sensors are announced anew)
     database.execute("delete from publication")
-    database.execute("delete from announced")
+    database.execute("update announced set told = 0")
     for (ident,) in cancelled:
         Publications(config.mqtt, database).command(ident)
 

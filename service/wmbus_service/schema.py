@@ -76,6 +76,12 @@ alter table publication add column made real;
 create index publication_of_topic on publication (topic);
 """
 
+# a sensor's unit, which it has for ever (of those of before it isn't known), and whether the broker of now was told of it
+UNITS = """
+alter table announced add column unit text;
+alter table announced add column told integer not null default 1;
+"""
+
 # the statements that make of version N the version N + 1
-MIGRATIONS = (FIRST, DAYS, FAILED, WAITING)
+MIGRATIONS = (FIRST, DAYS, FAILED, WAITING, UNITS)
 VERSION = len(MIGRATIONS)
