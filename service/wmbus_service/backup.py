@@ -17,10 +17,10 @@ from .memory_files import memory_files, path_of
 from .meters import DOWN_PLACE
 from .publications import Publications
 from .spool import sync
-from .steps import ProgramFailed, run_steps, state_text
+from .steps import MOST_METERS, ProgramFailed, run_steps, state_text
 from .trouble import Trouble
 
-HIGHEST, MOST_METERS = (1 << 32) - 1, 4096
+HIGHEST = (1 << 32) - 1
 SMALLER = "take a smaller margin"
 
 

@@ -9,7 +9,7 @@ from collections.abc import Iterable, Iterator
 
 from . import store
 from .status import shown
-from .steps import state_text
+from .steps import MOST_METERS, state_text
 from .trouble import Trouble
 
 HEAD = ("moment", "address", "name", "counter", "quantity", "value", "unit", "function", "storage", "tariff", "subunit", "receiver",
@@ -54,12 +54,13 @@ def as_json(database: sqlite3.Connection, address: str | None, since: int) -> It
         yield json.dumps(row) + "\n"
 
 
-def state(database: sqlite3.Connection) -> str:
-    """What is known of all meters, as the programs read it, with their keys."""
+def states(database: sqlite3.Connection) -> list[str]:
+    """What is known of all meters, as the programs read it, with their keys: one state, or several of more meters than one has."""
     own = store.setting(database, "own")
     if own is None:
         raise Trouble("the database", "no meter is known yet")
-    return state_text(own, (block for (block,) in database.execute("select block from meter order by place")))
+    blocks = [block for (block,) in database.execute("select block from meter order by place")]
+    return [state_text(own, blocks[start:start + MOST_METERS]) for start in range(0, max(len(blocks), 1), MOST_METERS)]
 
 
 def lines(database: sqlite3.Connection) -> Iterator[str]:
