@@ -36,8 +36,9 @@ COUNTERS = {
     "downlinks": "downlinks made",
     "aside": "lines at which the program failed",
     "sessions": "sessions that were committed",
-    "publications_left_out": "messages that weren't published, since too many waited and later ones of their topics did",
 }
+# what a service has beside what its sessions count
+BESIDE = {"publications_left_out": "messages that weren't published, since too many waited and later ones of their topics did"}
 GAUGES = {
     "meters": ("meters that are known", "select count(*) from meter"),
     "publications_waiting": ("messages that the broker hasn't acknowledged", "select count(*) from publication"),
@@ -64,7 +65,7 @@ class Figures(Collector):
 
     def _of(self, database: sqlite3.Connection) -> Iterator[Metric]:
         totals = dict(database.execute("select name, value from total").fetchall())
-        for name, words in COUNTERS.items():
+        for name, words in (COUNTERS | BESIDE).items():
             counter = CounterMetricFamily(f"wmbus_{name}", f"{words}, over all starts")
             counter.add_metric([], totals.get(name, 0))
             yield counter
