@@ -411,6 +411,22 @@ def test_csv(page: PageHouse) -> None:
     assert page.client().get(f"/meters/{first}/readings.csv?from=yesterday").status_code == 400
 
 
+def test_names_that_a_spreadsheet_would_reckon(page: PageHouse) -> None:
+    """A name that a spreadsheet would take for a formula (OWASP, "CSV Injection") has the sign in front by which it is a text there; other
+    names, numbers among them, are as they were typed, and so are values, and all of it in JSON."""
+    address = page.addresses[0]
+    page.read(address, NOW - 60, ("volume", "m3", -3, "-5"))
+    for name, wanted in (('=HYPERLINK("http://a.example", "b")', None), ("@SUM(A1)", None), ("+cmd|' /C calc'!A0", None), ("-2+3", None),
+                         ("-", None), ("\t=1", None), ("-12,5", "-12,5"), ("+49 170", "+49 170"), ("-7", "-7"), ("", ""),
+                         ("Flat 2 = left", "Flat 2 = left")):
+        page.write("update meter set name = ? where address = ?", name, address)
+        exported = "".join(exporting.as_csv(page.house.database, address, 0))
+        for text in (page.client().get(f"/meters/{address}/readings.csv").text, page.client().get("/readings.csv").text, exported):
+            (row,) = csv.DictReader(io.StringIO(text))
+            assert (row["name"], row["value"]) == (f"'{name}" if wanted is None else wanted, "-0.005")
+        assert json.loads(next(iter(exporting.as_json(page.house.database, address, 0))))["name"] == name
+
+
 def test_a_csv_that_nobody_reads_on(page: PageHouse, monkeypatch: pytest.MonkeyPatch) -> None:
     """A download that stands still, as that of a machine that sleeps, holds nothing of the database: what is written meanwhile goes from its
     log into its file, which would grow until the disk is full. Read on, it has each value once and in order, also readings of one moment."""
