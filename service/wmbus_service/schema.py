@@ -82,6 +82,9 @@ alter table announced add column unit text;
 alter table announced add column told integer not null default 1;
 """
 
+# lines of a state that an earlier service took for meters', where it was named as a roster
+NO_METERS = "delete from meter where substr(block, 1, 6) <> 'meter ';\n"
+
 # the statements that make of version N the version N + 1
-MIGRATIONS = (FIRST, DAYS, FAILED, WAITING, UNITS)
+MIGRATIONS = (FIRST, DAYS, FAILED, WAITING, UNITS, NO_METERS)
 VERSION = len(MIGRATIONS)
