@@ -1,6 +1,7 @@
 """The page as a process: served on this machine as it is, elsewhere with TLS; it ends when it is told to, whatever its connections do."""
 from __future__ import annotations
 
+import io
 import os
 import re
 import shutil
@@ -311,8 +312,8 @@ def test_slow_connections(page: PageHouse, tmp_path: Path, is_with_tls: bool) ->
 
         def is_ended(connection: socket.socket) -> bool:
             try:
-                return not connection.recv(1000) or is_ended(connection)
-            except TimeoutError:
+                return not connection.recv(1000)
+            except (BlockingIOError, ssl.SSLWantReadError):
                 return False
             except OSError:
                 return True
@@ -320,10 +321,31 @@ def test_slow_connections(page: PageHouse, tmp_path: Path, is_with_tls: bool) ->
         threading.Thread(target=drip, daemon=True).start()
         before = time.monotonic()
         assert ("<h1>Enter</h1>" if trust else "All meters") in fetched(it, trust) and time.monotonic() - before < 8
-        time.sleep(2 * serving.SECONDS)
         for connection, _ in slow:
-            connection.settimeout(0.1)
-        assert len(slow) > serving.THREADS and all(is_ended(connection) for connection, _ in slow) and "Traceback" not in it.said()
+            connection.settimeout(0)
+        until(lambda: all(is_ended(connection) for connection, _ in slow), 4 * serving.SECONDS)
+        assert len(slow) > serving.THREADS and "Traceback" not in it.said()
+
+
+def test_answers_at_once(page: PageHouse, tmp_path: Path) -> None:
+    """With TLS too no more answers are made at once than there are threads for without, and each has what was asked as a whole."""
+    pytest.importorskip("cheroot", reason="python3-cheroot isn't there")
+    from wmbus_service.page import tls
+    at_once, most, guard = 0, 0, threading.Lock()
+
+    def app(environ: dict[str, Any], _begin: object) -> list[bytes]:
+        nonlocal at_once, most
+        with guard:
+            at_once += 1
+            most = max(most, at_once)
+        time.sleep(0.02)
+        with guard:
+            at_once -= 1
+        return [bytes(environ["wsgi.input"].read())]
+    limited = tls.in_turn(app, serving.THREADS)
+    with ThreadPoolExecutor(8 * serving.THREADS) as asking:
+        told = list(asking.map(lambda number: limited({"wsgi.input": io.BytesIO(b"%d" % number)}, None), range(8 * serving.THREADS)))
+    assert told == [[b"%d" % number] for number in range(8 * serving.THREADS)] and most == serving.THREADS
 
 
 def test_silent_connections(page: PageHouse, tmp_path: Path) -> None:

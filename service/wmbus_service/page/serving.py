@@ -163,7 +163,7 @@ def server_with_tls(app: object, page: Page) -> Any:
     except ImportError:
         raise Trouble("page.certificate", "TLS needs cheroot, which isn't there", "apt-get install python3-cheroot") from None
     try:
-        return server_of(app, page, SECONDS)
+        return server_of(app, page, THREADS, SECONDS)
     except OSError as fault:
         raise Trouble(page.certificate, f"TLS can't be begun: {fault}", "look at page.certificate and page.key") from None
 

@@ -2,6 +2,7 @@
 from __future__ import annotations
 
 import errno
+import io
 import logging
 import os
 import socket
@@ -12,6 +13,7 @@ from collections.abc import Iterator
 from contextlib import contextmanager, suppress
 from typing import Any
 
+from cheroot.errors import MaxSizeExceeded
 from cheroot.server import HTTPConnection
 from cheroot.ssl.builtin import BuiltinSSLAdapter
 from cheroot.wsgi import Server
@@ -109,6 +111,21 @@ class InTime(ssl.SSLSocket):
             return super().send(data, *given)
 
 
+def in_turn(app: Any, most: int) -> Any:
+    """An application that makes so many answers at once: what is asked has come as a whole by then, so that who is slow keeps none waiting."""
+    turns = threading.Semaphore(most)
+
+    def answer(environ: dict[str, Any], begin: Any) -> Any:
+        try:
+            content = environ["wsgi.input"].read(MOST_BODY)
+        except (ValueError, MaxSizeExceeded):
+            # (chunks that are none, or too long: such a form isn't whole)
+            content = b""
+        with turns:
+            return app(environ | {"wsgi.input": io.BytesIO(content)}, begin)
+    return answer
+
+
 class Adapter(BuiltinSSLAdapter):
     """Makes connections those of TLS, whose handshake is left to the thread that serves them: here all others would wait for it."""
 
@@ -135,7 +152,7 @@ class Adapter(BuiltinSSLAdapter):
             # (nobody is there who could be asked for the password of a key)
             context.load_cert_chain(self.page.certificate, self.page.key, password="")
             context.sslsocket_class = InTime
-            self.context = context
+            self.context, self.said = context, ""
             log.info("the certificate was renewed")
         except OSError as fault:
             # (a file that is gone for a moment is looked for again)
@@ -183,9 +200,10 @@ class PageServer(Server):
         inner.process_conn(conn)
 
 
-def server_of(app: object, page: Page, seconds: float) -> Any:
-    """The server, which doesn't listen yet. A request has so many seconds."""
-    server: Any = PageServer((page.host, page.port), app, numthreads=PLACES, server_name="wmbus")
+def server_of(app: object, page: Page, threads: int, seconds: float) -> Any:
+    """The server, which doesn't listen yet. So many answers are made at once, and a request has so many seconds."""
+    server: Any = PageServer((page.host, page.port), in_turn(app, threads), numthreads=PLACES, server_name="wmbus")
+    server.request_queue_size = 2 * PLACES
     server.ssl_adapter = Adapter(page, seconds)
     server.ConnectionClass = Connection
     server.max_request_header_size, server.max_request_body_size = MOST_HEAD, MOST_BODY
