@@ -344,8 +344,8 @@ def test_answers_at_once(page: PageHouse, tmp_path: Path) -> None:
         return [bytes(environ["wsgi.input"].read())]
     limited = tls.in_turn(app, serving.THREADS)
     with ThreadPoolExecutor(8 * serving.THREADS) as asking:
-        told = list(asking.map(lambda number: limited({"wsgi.input": io.BytesIO(b"%d" % number)}, None), range(8 * serving.THREADS)))
-    assert told == [[b"%d" % number] for number in range(8 * serving.THREADS)] and most == serving.THREADS
+        told = list(asking.map(lambda it: [*limited({"wsgi.input": io.BytesIO(it)}, None)], asked := [b"%d" % it for it in range(32)]))
+    assert told == [[it] for it in asked] and most == serving.THREADS
 
 
 def test_silent_connections(page: PageHouse, tmp_path: Path) -> None:
