@@ -23,6 +23,7 @@ from pathlib import Path
 from typing import Any
 
 import pytest
+from wmbus_service.config import Page
 from wmbus_service.page import serving
 
 from .page_house import TOKEN, PageHouse, forms_word, page_fixture  # noqa: F401
@@ -325,6 +326,26 @@ def test_slow_connections(page: PageHouse, tmp_path: Path, is_with_tls: bool) ->
             connection.settimeout(0)
         until(lambda: all(is_ended(connection) for connection, _ in slow), 4 * serving.SECONDS)
         assert len(slow) > serving.THREADS and "Traceback" not in it.said()
+
+
+def test_a_reader_that_pauses(monkeypatch: pytest.MonkeyPatch) -> None:
+    """Who takes an answer may pause for longer than a request has to come, as in a pager, and gets all of it."""
+    monkeypatch.setattr(serving, "SECONDS", 0.5)
+
+    def app(_environ: object, begin: Any) -> list[bytes]:
+        begin("200 OK", [("Content-Length", str(8 << 20))])
+        return [b"a" * (8 << 20)]
+    server = serving.plain_server(app, Page(port=0))
+    threading.Thread(target=server.run, daemon=True).start()
+    with socket.socket() as plain:
+        plain.setsockopt(socket.SOL_SOCKET, socket.SO_RCVBUF, 4096)
+        plain.settimeout(PATIENCE)
+        plain.connect(("127.0.0.1", serving.port_of(server)))
+        plain.sendall(b"GET / HTTP/1.1\r\nHost: 127.0.0.1\r\nConnection: close\r\n\r\n")
+        time.sleep(6 * serving.SECONDS)
+        with plain.makefile("rb") as told:
+            assert told.read().count(b"a" * 1024) == 8 << 10
+    server.task_dispatcher.shutdown()
 
 
 def test_answers_at_once(page: PageHouse, tmp_path: Path) -> None:

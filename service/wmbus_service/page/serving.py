@@ -118,8 +118,7 @@ def plain_server(app: object, page: Page) -> Any:
     logging.getLogger("waitress.queue").setLevel(logging.ERROR)
     try:
         server: Any = waitress.create_server(app, host=page.host, port=page.port, threads=THREADS, ident=None,
-                                             max_request_header_size=MOST_HEAD, max_request_body_size=MOST_BODY,
-                                             channel_timeout=SECONDS, cleanup_interval=1)
+                                             max_request_header_size=MOST_HEAD, max_request_body_size=MOST_BODY, cleanup_interval=1)
     except OSError as fault:
         raise _unserved(page, fault) from None
     limit_requests(server)
@@ -128,7 +127,7 @@ def plain_server(app: object, page: Page) -> Any:
 
 def limit_requests(server: Any) -> None:
     """Has a server without TLS, or each of those of a name's addresses, end connections whose request goes on for too long: it holds as
-    many as there may be, and each piece of one would give it its time anew."""
+    many as there may be, and each piece of one would give it its time anew. Who takes an answer may pause."""
     from waitress.channel import HTTPChannel
     from waitress.server import BaseWSGIServer
 
@@ -136,15 +135,24 @@ def limit_requests(server: Any) -> None:
         """A connection."""
 
         request: Any
-        begun = last_activity = 0.0
+        last_activity: float
+
+        def __init__(self, *given: Any, **named: Any) -> None:
+            super().__init__(*given, **named)
+            self.begun = self.last_activity
+            self.limit()
+
+        def limit(self) -> None:
+            """From here on nothing more may come once the request's time is over, since the server thinks that nothing has for long."""
+            self.last_activity = self.begun + SECONDS - self.adj.channel_timeout
 
         def received(self, data: bytes) -> bool:
             """Takes what came."""
-            request, begun = self.request, self.begun if self.request else self.last_activity
+            now, request = self.last_activity, self.request
             told = bool(super().received(data))
             if self.request is not None:
-                self.begun = begun if self.request is request else self.last_activity
-                self.last_activity = self.begun
+                self.begun = self.begun if self.request is request else now
+                self.limit()
             return told
     for it in server.map.values() if hasattr(server, "map") else [server]:
         if isinstance(it, BaseWSGIServer):
