@@ -573,6 +573,11 @@ def test_retention_and_a_clock_that_jumps(house: House, monkeypatch: pytest.Monk
             assert kept(0.5) == [1, 2, 3, 4, 5] and len(house.all("select number from line")) == 5
             assert (words in status.status(house.config, False)) is is_told
     assert caplog.text.count(f"{words} 4995 days") == 1
+    # (as after an upgrade, where nothing says yet when the clock was looked at last)
+    now[0] = NOW + 5000 * DAY
+    house.database.execute("delete from setting where name = 'ages'")
+    Service(house.config, house.database).turn()
+    assert len(house.all("select number from line")) == 5
     now[0] = NOW + 63 * DAY
     assert all(kept(1) == [1, 2, 3, 4, 5] for _ in range(55))
     assert [kept(1) for _ in range(5)] == [[2, 3, 4, 5], [3, 4, 5], [4, 5], [4, 5], [4, 5]]

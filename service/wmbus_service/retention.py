@@ -41,8 +41,8 @@ class Ages:
         passed = time.monotonic() - self.looked
         if self.told is None or passed >= NOTED:
             with transaction(self.database):
-                before = setting(self.database, "ages")
-                self.told = now if before is None else min(now, float(before) + CATCHES_UP * passed)
+                before = setting(self.database, "ages") or self._last_reading() or now
+                self.told = min(now, float(before) + CATCHES_UP * passed)
                 set_setting(self.database, "ages", str(self.told))
             self.looked += passed
         self.told = min(now, self.told)
@@ -50,6 +50,11 @@ class Ages:
         if self.is_behind and not was_behind:
             log.warning("%s", went_forward(now - self.told))
         return self.told
+
+    def _last_reading(self) -> float | None:
+        """When the last reading was made by a clock that was set."""
+        (made,) = self.database.execute("select max(made) from reading where made >= ?", (LEAST,)).fetchone()
+        return None if made is None else float(made)
 
 
 def seconds_behind(database: sqlite3.Connection, now: float) -> float:
