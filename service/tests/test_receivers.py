@@ -289,6 +289,21 @@ def test_files_one_after_the_other(tmp_path: Path, monkeypatch: pytest.MonkeyPat
     assert len(sizes) > 2 and max(sizes) < receiving.MOST_BYTES and (tmp_path / "begun").read_text() == "begun\n"
 
 
+def test_a_line_that_is_written_last(tmp_path: Path) -> None:
+    """What line_feed writes while its receiver is told to end stays, also as the first line of its file."""
+    line_feed = tmp_path / "line_feed"
+    line_feed.write_text(f"#!/bin/sh\ntrap 'sleep 1; echo a line; exit' TERM\ntouch {tmp_path}/begun\nwhile sleep 0.1; do :; done\n")
+    line_feed.chmod(0o755)
+    config = Config(folder=tmp_path / "wmbus", programs=Programs(line_feed=str(line_feed)),
+                    receivers={"attic": Receiver(command="sleep 600", format="hex")})
+    child = Child(tmp_path / "log", Receiving(config, "attic").run)
+    try:
+        until((tmp_path / "begun").exists)
+    finally:
+        assert child.end(signal.SIGTERM) == 0, (tmp_path / "log").read_text()
+    assert [path.read_text() for path in config.spool.iterdir()] == ["a line\n"]
+
+
 def test_two_writers_of_a_receiver(tmp_path: Path) -> None:
     """Each start has a file of its own, whose number is above all that are there."""
     numbers = []

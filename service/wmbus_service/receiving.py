@@ -144,9 +144,11 @@ class Receiving:
             try:
                 return self._pass_on(radio.stdout.fileno(), feed, opened, begun)
             finally:
+                # (its last lines stand in the file by then)
                 feed.stdin.close()
-                if not self.ending.is_set():
-                    feed.wait()
+                if self.ending.is_set():
+                    self._end_feed()
+                feed.wait()
         return None
 
     def _pass_on(self, printed: int, feed: subprocess.Popen[bytes], opened: int, content: bytes) -> bytes | None:
