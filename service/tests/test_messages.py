@@ -562,7 +562,7 @@ def test_a_broker_that_never_returns(house: House, monkeypatch: pytest.MonkeyPat
     assert [json.loads(text)["counter"] for _, text in told[2:]] == [2, *range(171, 181)]
     assert len(house.all("select id from reading")) == 182 and caplog.text.count("more than mqtt.waiting") == 1
     words = status.status(config, False)
-    assert "13 messages wait for the MQTT broker, the oldest for 60 hours; 171 were left out" in words, words
+    assert "13 messages wait for the MQTT broker, the oldest for 60 hours\n171 messages weren't published" in words, words
     assert [it.what for it in looks.all_looks(config, house.database, [], [], clock[0])] == ["stands still", "messages wait"]
     figures = {it.name: it.samples[0].value for it in metrics.Figures(config, service.Service(config, house.database)).collect()}
     assert [figures[f"wmbus_publications_{name}"] for name in ("waiting", "oldest_seconds", "left_out")] == [13, 60 * 3600, 171]

@@ -111,8 +111,9 @@ def in_words(told: dict[str, Any]) -> Iterator[str]:
         yield f"set aside, since the program fails at it: line {it['id']} of {it['receiver'] or 'the service'}: {it['said']}"
     if told["publications_waiting"]:
         yield (f"{told['publications_waiting']} messages wait for the MQTT broker, the oldest for"
-               f" {told['publications_oldest_seconds'] // 3600} hours; {totals.get('publications_left_out', 0)} were left out,"
-               " since later ones of their topics waited")
+               f" {told['publications_oldest_seconds'] // 3600} hours")
+    if left_out := totals.get("publications_left_out"):
+        yield f"{left_out} messages weren't published, since too many waited for the MQTT broker, later ones of their topics among them"
 
 
 def status(config: Config, is_json: bool) -> str:
