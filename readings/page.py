@@ -21,7 +21,9 @@ docs/FORMATS.md describes the tables of DB, and what each fault means."""
 from readings import quiet
 
 import contextlib
+import fcntl
 import gc
+import glob
 import os
 import re
 import sqlite3
@@ -50,6 +52,8 @@ MOST_STRANGERS = 50
 # as many meters are shown unfolded
 OPEN_METERS = 6
 DAY = 86400
+# after so long a part of a page isn't one that has just begun
+LEFT_SECONDS = 60
 # after so many seconds without a reading a meter or a receiver is called silent
 SILENCE = 2 * DAY
 
@@ -596,6 +600,20 @@ def keep_rights(part, there):
     os.chmod(part, told.st_mode & (0o707 | of_group))
 
 
+def remove_left(path):
+    """Takes away what runs that were killed left beside a file: who still writes holds a lock, or has just begun."""
+    for name in glob.glob(f"{glob.escape(path)}.*.part"):
+        if re.fullmatch(r"[0-9]+", name[len(path) + 1:-len(".part")]):
+            with contextlib.suppress(OSError):
+                opened = os.open(name, os.O_RDONLY | os.O_NOFOLLOW | os.O_NONBLOCK)
+                try:
+                    fcntl.flock(opened, fcntl.LOCK_EX | fcntl.LOCK_NB)
+                    if time.time() - os.fstat(opened).st_mtime > LEFT_SECONDS:
+                        os.remove(name)
+                finally:
+                    os.close(opened)
+
+
 def write_whole(path, texts):
     """Writes a file whole, or leaves what was there. What is no file, as a pipe or /dev/stdout, isn't replaced by one."""
     if os.path.exists(path) and not os.path.isfile(path):
@@ -603,8 +621,12 @@ def write_whole(path, texts):
             file.writelines(texts)
         return
     part = f"{path}.{os.getpid()}.part"
+    remove_left(path)
     try:
         with open(part, "x", encoding="utf-8") as file:
+            # (not every file system has locks)
+            with contextlib.suppress(OSError):
+                fcntl.flock(file, fcntl.LOCK_EX)
             if os.path.exists(path):
                 keep_rights(file.fileno(), path)
             file.writelines(texts)

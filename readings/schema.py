@@ -213,7 +213,7 @@ def check_tables(database, path, create):
     application, version = marks(database)
     if is_of_service(database) and create:
         raise NoDatabase(f"{path}: this is the database of wmbus-service, which keeps its readings itself")
-    if is_of_service(database) and version == service_tables.VERSION:
+    if is_of_service(database) and 1 <= version <= service_tables.VERSION:
         return
     if application not in (APPLICATION, service_tables.APPLICATION):
         raise NoDatabase(f"{path}: this is no database of readings")

@@ -8,7 +8,8 @@ from decimal import Decimal
 from readings.page_texts import is_number
 
 APPLICATION = 0x776D6275
-VERSION = 1
+# (the tables that are read here are the same in all versions up to this one)
+VERSION = 6
 # a value with a greater power of ten has it behind it
 MOST_POWER = 60
 LATE = 6 * 3600

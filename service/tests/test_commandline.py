@@ -231,6 +231,32 @@ def test_a_file_that_goes_meanwhile(place: Place) -> None:
     assert spooled_bytes(spool) == 7
 
 
+def test_a_state_of_many_meters(place: Place) -> None:
+    """A state has 4,096 meters (docs/FORMATS.md, "The state"): of more there are several, each of which the programs read. Where one of the
+    files is there already none is written."""
+    place.said("add", ADDRESS, "--own", OWN, given=KEY)
+    addresses = [ADDRESS, *(f"4304{number:08d}0104" for number in range(4096))]
+    with closing(open_store(place.folder / "wmbus/wmbus.db")) as database, store.transaction(database):
+        for number, address in enumerate(addresses[1:], 2):
+            database.execute("insert into meter (address, place, block) values (?, ?, ?)",
+                             (address, number, f"meter {address} 7 {KEY} - - 0 0\n"))
+    file, second = place.folder / "state", place.folder / "state.2"
+    second.touch()
+    assert f"{second}: it is there already" in place.fault("export", "--state", str(file))
+    assert not file.exists() and not (place.folder / "state.1").exists()
+    second.unlink()
+    (place.folder / "heard").touch()
+    assert f"{file}.1 {file}.2" in place.said("export", "--state", str(file)) and not file.exists()
+    found: list[str] = []
+    for part in (place.folder / "state.1", second):
+        assert part.stat().st_mode & 0o777 == 0o600
+        others = [place.folder / name for name in ("next", "last", "heard", "sent")]
+        done = run([f"{TOP}/bin/wmbus", "continue", part, *others], check=False)
+        assert (done.returncode, done.stderr) == (0, "")
+        found += [line.split(" ")[1] for line in (place.folder / "next").read_text().splitlines() if line.startswith("meter")]
+    assert found == addresses
+
+
 def test_export_of_a_meter_in_large_letters(place: Place) -> None:
     """An address in large letters names its meter, as it does for the other commands."""
     address = "93150100000a01ab"

@@ -217,6 +217,21 @@ def test_a_state_as_a_roster(place: Place, above: str) -> None:
     assert not known(place)
 
 
+def test_a_state_that_was_taken_as_a_roster(place: Place) -> None:
+    """A database of before version 6 in which lines of a state stand as meters loses these: it is put back as a copy, and its state is read."""
+    place.said("add", HEAT, "--own", OWN, given=KEY)
+    with sqlite3.connect(place.folder / "wmbus/wmbus.db") as database:
+        for number, block in enumerate(("reading 1700000123 24 2f2f0c1427048502 -\n", "command 5 0 02 -\n", "end -\n"), 2):
+            database.execute("insert into meter (address, place, block) values (?, ?, ?)", (block.split(" ")[1], number, block))
+        database.execute("pragma user_version = 5")
+    copy, state = place.folder / "copy.db", place.folder / "state"
+    with closing(sqlite3.connect(copy)) as made:
+        database.backup(made)
+    assert "1 meters are" in place.said("restore", str(copy), "--margin", "0")
+    place.said("export", "--state", str(state))
+    assert [*known(place)] == [HEAT] and state.read_text() == f"wmbus-state 1\nown {OWN}\nmeter {HEAT} 7 {KEY} - - 0 0\nend\n"
+
+
 def test_a_list_that_root_alone_reads(place: Place, monkeypatch: pytest.MonkeyPatch) -> None:
     """It is read before root becomes the service's user."""
     path = listed(place, f"address;key\n{HEAT};{KEY}\n")

@@ -18,15 +18,19 @@ from pathlib import Path
 from typing import Any
 
 import pytest
-from wmbus_service import broker, service, session, status, steps, store
+from wmbus_service import broker, metrics, service, session, status, steps, store
 from wmbus_service.commands import put_command
 from wmbus_service.config import Config, Metrics, Mqtt, Programs
 from wmbus_service.ending import Ending
+from wmbus_service.page import looks
+from wmbus_service.publications import announce_anew
 from wmbus_service.sensors import KINDS, kind_of, shown
 from wmbus_service.trouble import Trouble
 
+import messages
 from . import servers
 from .kill import TOP, Child
+from .meters import line_of
 from .processes import PATIENCE, certificate_of, free_port, run, until
 from .servers import Listener, Mosquitto
 from .test_sessions import House, house_fixture  # noqa: F401
@@ -408,6 +412,28 @@ def test_sensors_members(house: House, mosquitto: Mosquitto) -> None:
     served.end()
 
 
+def test_a_meter_that_changes_its_unit(house: House) -> None:
+    """A sensor has one unit for ever: a value in another one has a sensor of its own, also in the same message, after a start with other
+    topics, and where a database of before doesn't know in which unit it told of the first one."""
+    meter, place = house.meters[0], f"homeassistant/sensor/wmbus_{house.meters[0].name}"
+    house.database.execute("insert into announced (address, name) values (?, 'energy')", (meter.name,))
+    told: list[tuple[str, Any, Any]] = []
+    for counter, payload in enumerate(("040607000000", "040e19000000", "040608000000" "040e1d000000", "040e20000000"), 1):
+        text = b"\x2f\x2f" + bytes.fromhex(payload)
+        house.spool(line_of(messages.whole(meter.key, meter.address, counter, text, 0x44, None), 100))
+        mqtt = Mqtt(topic="wmbus" if counter < 4 else "other")
+        announce_anew(mqtt, house.database)
+        session.Sessions(replace(house.config, mqtt=mqtt), house.database).next(1000.0)
+        for topic, it in [(topic, json.loads(it)) for topic, it in house.all("select topic, payload from publication order by id")]:
+            told += [(topic, it["unit_of_measurement"], it["value_template"])] if topic.endswith("config") else [
+                (topic, it.get("energy"), it.get("energy_MJ"))]
+        house.database.execute("delete from publication")
+    energy = (f"{place}/energy/config", "kWh", "{{ value_json.energy }}")
+    joules = (f"{place}/energy_MJ/config", "MJ", "{{ value_json.energy_MJ }}")
+    topic = f"wmbus/meter/{meter.name}"
+    assert told == [energy, (topic, 7, None), joules, (topic, None, 25), (topic, 8, 29), joules, (topic.replace("wmbus", "other", 1), None, 32)]
+
+
 def test_sensors_at_another_broker_or_topic(house: House, tmp_path: Path) -> None:
     """Once the broker is another one in the configuration, which knows no sensor yet, or the topics are, sensors are told of there, and
     otherwise once over all starts."""
@@ -518,6 +544,32 @@ def test_settings_with_which_nothing_goes(house: House, mosquitto: Mosquitto, na
     connecting.join(PATIENCE)
 
 
+def test_a_broker_that_never_returns(house: House, monkeypatch: pytest.MonkeyPatch, caplog: pytest.LogCaptureFixture) -> None:
+    """Of the messages in front of the last ones, which all wait, the last one of each topic alone waits, so that a broker that is away for
+    years is told of each sensor and each last value, and the disk isn't filled; log, status and page say so."""
+    config = replace(house.config, mqtt=Mqtt(waiting=10))
+    sessions, clock = session.Sessions(config, house.database), [100_000.0]
+    monkeypatch.setattr("time.time", lambda: clock[0])
+    for number in range(60):
+        house.spool("".join(house.whole(house.meters[0]) for _ in range(3)) + (house.whole(house.meters[1]) if number < 2 else ""))
+        sessions.next(clock[0])
+        clock[0] += 3600
+        assert len(house.all("select id from publication")) <= 10 + 4 + 4
+    told = house.all("select topic, payload from publication order by id")
+    first, second = (meter.name for meter in house.meters[:2])
+    assert [topic for topic, _ in told[:3]] == [*(f"homeassistant/sensor/wmbus_{it}/volume/config" for it in (first, second)),
+                                                f"wmbus/meter/{second}"]
+    assert [json.loads(text)["counter"] for _, text in told[2:]] == [2, *range(171, 181)]
+    assert len(house.all("select id from reading")) == 182 and caplog.text.count("more than mqtt.waiting") == 1
+    words = status.status(config, False)
+    assert "13 messages wait for the MQTT broker, the oldest for 60 hours\n171 messages weren't published" in words, words
+    assert [it.what for it in looks.all_looks(config, house.database, [], [], clock[0])] == ["stands still", "messages wait"]
+    figures = {it.name: it.samples[0].value for it in metrics.Figures(config, service.Service(config, house.database)).collect()}
+    assert [figures[f"wmbus_publications_{name}"] for name in ("waiting", "oldest_seconds", "left_out")] == [13, 60 * 3600, 171]
+    house.database.execute("delete from publication")
+    assert "messages wait" not in status.status(config, False)
+
+
 def test_metrics(house: House, mosquitto: Mosquitto) -> None:
     """The client library's parser reads the metrics, and they are what was heard."""
     from prometheus_client.parser import text_string_to_metric_families
@@ -538,7 +590,6 @@ def test_metrics(house: House, mosquitto: Mosquitto) -> None:
 def test_silent_connections_to_the_metrics(house: House, monkeypatch: pytest.MonkeyPatch) -> None:
     """Who connects and says nothing, as anybody on the machine may, takes neither a thread nor an open file each of the service, which
     sessions need; the metrics are had all the same."""
-    from wmbus_service import metrics
     monkeypatch.setattr(metrics.Asked, "timeout", 0.2)
     port = free_port()
     metrics.serve(house.config, Metrics(port=port), service.Service(house.config, house.database))
@@ -553,13 +604,12 @@ def test_silent_connections_to_the_metrics(house: House, monkeypatch: pytest.Mon
 
 def test_metrics_port_that_is_taken(house: House) -> None:
     """Where the metrics' port is another's, or none, it is said which one, and what to do."""
-    from wmbus_service.metrics import serve
     with socket.create_server(("127.0.0.1", 0)) as taken:
         for port in (taken.getsockname()[1], 70_000):
             with pytest.raises(Trouble, match=rf"127\.0\.0\.1:{port}: .*\[metrics\]"):
-                serve(house.config, Metrics(port=port), service.Service(house.config, house.database))
+                metrics.serve(house.config, Metrics(port=port), service.Service(house.config, house.database))
     with pytest.raises(Trouble, match=r"radio\.\.house:9101: .*\[metrics\]"):
-        serve(house.config, Metrics(host="radio..house"), service.Service(house.config, house.database))
+        metrics.serve(house.config, Metrics(host="radio..house"), service.Service(house.config, house.database))
 
 
 def test_a_session_and_a_wrong_clock(house: House, monkeypatch: pytest.MonkeyPatch) -> None:

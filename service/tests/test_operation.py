@@ -494,17 +494,32 @@ def test_days_that_were_heard_late(house: House) -> None:
 
 @pytest.mark.parametrize("piece", [1, 1000])
 def test_what_flowed_backward_in_a_later_piece(house: House, monkeypatch: pytest.MonkeyPatch, piece: int) -> None:
-    """Of a day the volume stays, and not what flowed backward, also where that one was heard later, and goes later: in a large house each
-    reading of a day goes with others."""
+    """Of a day the last values stay of the volume and of what flowed backward, whichever goes later: in a large house each reading of a day
+    goes with others."""
     monkeypatch.setattr(retention, "PIECE", piece)
     meter = house.meters[0]
-    for counter, payload in ((1, "0c1306000000"), (2, "0c1307000000"), (3, "0c933c05000000")):
+    for counter, payload in enumerate(("0c933c03000000", "0c1306000000", "0c1307000000", "0c933c04000000", "0c933c05000000"), 1):
         text = b"\x2f\x2f" + bytes.fromhex(payload)
         house.spool(line_of(messages.whole(meter.key, meter.address, counter, text, 0x44, None), 100))
         house.hear(NOW + counter)
     while retention.let_go(house.database, Keep(readings=1), NOW + 2 * DAY):
         pass
-    assert house.all("select value from daily") == ["7"]
+    assert house.all("select value, modifiers from daily order by value") == [("5", "3c"), ("7", "")]
+
+
+def test_days_of_an_earlier_version(tmp_path: Path, monkeypatch: pytest.MonkeyPatch) -> None:
+    """The values of days that a database of version 1 has are there in this version, as those of registers without modifiers; others come
+    beside them, each with its own."""
+    path, day = tmp_path / "wmbus.db", ("a", "2026-01-31", "volume", "m3", -3, "7", "instantaneous", 0, 0, 0)
+    with monkeypatch.context() as earlier:
+        earlier.setattr(schema, "MIGRATIONS", schema.MIGRATIONS[:1])
+        earlier.setattr(schema, "VERSION", 1)
+        with closing(store.open_store(path, is_new=True)) as database:
+            database.execute(f"insert into daily values (?{', ?' * 9})", day)
+    with closing(store.open_store(path)) as database:
+        assert database.execute("select * from daily").fetchall() == [(*day, "")]
+        database.execute(f"insert into daily values (?{', ?' * 9}, '3c')", day)
+        assert database.execute("pragma integrity_check").fetchone() == ("ok",)
 
 
 def test_retention_beside_lines(house: House) -> None:
@@ -534,6 +549,38 @@ def test_retention_and_a_wrong_clock(house: House) -> None:
         pass
     assert house.all("select counter from reading order by id") == [1, 2, 4]
     assert house.all("select day, value from daily") == [("1970-01-01", "3")]
+
+
+def test_retention_and_a_clock_that_jumps(house: House, monkeypatch: pytest.MonkeyPatch, caplog: pytest.LogCaptureFixture) -> None:
+    """A clock that is years ahead for an hour takes nothing with it, and one that isn't set neither; the log says so, and status. Where it
+    stays there, what is kept no longer goes by a day further with each hour."""
+    now = [NOW]
+    monkeypatch.setattr("time.time", lambda: now[0])
+    served, words = Service(house.config, house.database), "the clock of this machine went forward by"
+
+    def kept(hours: float) -> list[int]:
+        """Of which readings the payloads are there, where the service goes on for so long."""
+        served.let_go_at, served.ages.looked = 0.0, served.ages.looked - hours * 3600
+        served.turn()
+        return house.all("select counter from reading where payload is not null order by id")
+    for day in range(5):
+        now[0] = NOW + day * DAY
+        house.spool(house.whole(house.meters[0]))
+        assert len(kept(24)) == day + 1 and words not in caplog.text
+    with closing(os.fdopen(service.lock(house.config.folder))):
+        for wrong, is_told in ((NOW + 5000 * DAY, True), (NOW + 5000 * DAY + 3600, True), (1000.0, False), (NOW + 4 * DAY + 7200, False)):
+            now[0] = wrong
+            assert kept(0.5) == [1, 2, 3, 4, 5] and len(house.all("select number from line")) == 5
+            assert (words in status.status(house.config, False)) is is_told
+    assert caplog.text.count(f"{words} 4995 days") == 1
+    # (as after an upgrade, where nothing says yet when the clock was looked at last)
+    now[0] = NOW + 5000 * DAY
+    house.database.execute("delete from setting where name = 'ages'")
+    Service(house.config, house.database).turn()
+    assert len(house.all("select number from line")) == 5
+    now[0] = NOW + 63 * DAY
+    assert all(kept(1) == [1, 2, 3, 4, 5] for _ in range(55))
+    assert [kept(1) for _ in range(5)] == [[2, 3, 4, 5], [3, 4, 5], [4, 5], [4, 5], [4, 5]]
 
 
 def test_what_retention_costs(house: House) -> None:

@@ -14,10 +14,10 @@ from contextlib import closing, suppress
 from pathlib import Path
 
 import pytest
-from wmbus_service import exporting, retention, schema, sensors
+from wmbus_service import exporting, retention, schema, sensors, store
 from wmbus_service.config import Keep
-from wmbus_service.page import radios, reading, views
-from wmbus_service.status import status
+from wmbus_service.page import looks, radios, reading, views
+from wmbus_service.status import figures, status
 
 import frames
 import messages
@@ -139,11 +139,26 @@ def test_replaced_meter(page: PageHouse) -> None:
         ("2027-01-14", "0.005", ""), ("2027-01-13", "0.020", ""), ("2027-01-12", "0", "reset or replaced"), ("2027-01-11", "0.100", "")]
 
 
+def test_what_commands_cost(page: PageHouse) -> None:
+    """What the overview and status say of commands and downlinks costs no more the more of them are done: these stay for ever."""
+    database, steps = page.house.database, list[None]()
+    with store.transaction(database):
+        for number in range(20_000):
+            database.execute("insert into command (id, address, kind, payload, state, made, changed)"
+                             " values (?, ?, 'send', '', 'confirmed', 0, ?)", (f"a{number}", page.addresses[0], NOW))
+            database.execute("insert into outbox (receiver, address, down, frame, command, made, sent) values ('', ?, ?, '', 1, ?, 1)",
+                             (page.addresses[0], number, NOW))
+    database.set_progress_handler(lambda: steps.append(None), 100)
+    assert len(looks.all_looks(page.house.config, database, [], [], NOW)) == 1 and not figures(page.house.config, database)["commands"]
+    database.set_progress_handler(None, 0)
+    assert len(steps) * 100 < 20_000
+
+
 def test_months_of_days_alone(page: PageHouse) -> None:
     """Months whose readings are gone are counted by the last values of their days."""
     address = page.addresses[0]
     for day, litres in (("2026-09-30", 100), ("2026-10-15", 150), ("2026-10-31", 190), ("2026-11-30", 260)):
-        page.write("insert into daily values (?, ?, 'volume', 'm3', -3, ?, 'instantaneous', 0, 0, 0)", address, day, str(litres))
+        page.write("insert into daily values (?, ?, 'volume', 'm3', -3, ?, 'instantaneous', 0, 0, 0, '')", address, day, str(litres))
     page.volume(address, NOW - 60, 400)
     told = page.client().get(f"/api/meters/{address}").json
     assert told
@@ -396,6 +411,22 @@ def test_csv(page: PageHouse) -> None:
     assert page.client().get(f"/meters/{first}/readings.csv?from=yesterday").status_code == 400
 
 
+def test_names_that_a_spreadsheet_would_reckon(page: PageHouse) -> None:
+    """A name that a spreadsheet would take for a formula (OWASP, "CSV Injection") has the sign in front by which it is a text there; other
+    names, numbers among them, are as they were typed, and so are values, and all of it in JSON."""
+    address = page.addresses[0]
+    page.read(address, NOW - 60, ("volume", "m3", -3, "-5"))
+    for name, wanted in (('=HYPERLINK("http://a.example", "b")', None), ("@SUM(A1)", None), ("+cmd|' /C calc'!A0", None), ("-2+3", None),
+                         ("-", None), ("\t=1", None), ("-12,5", "-12,5"), ("+49 170", "+49 170"), ("-7", "-7"), ("", ""),
+                         ("Flat 2 = left", "Flat 2 = left")):
+        page.write("update meter set name = ? where address = ?", name, address)
+        exported = "".join(exporting.as_csv(page.house.database, address, 0))
+        for text in (page.client().get(f"/meters/{address}/readings.csv").text, page.client().get("/readings.csv").text, exported):
+            (row,) = csv.DictReader(io.StringIO(text))
+            assert (row["name"], row["value"]) == (f"'{name}" if wanted is None else wanted, "-0.005")
+        assert json.loads(next(iter(exporting.as_json(page.house.database, address, 0))))["name"] == name
+
+
 def test_a_csv_that_nobody_reads_on(page: PageHouse, monkeypatch: pytest.MonkeyPatch) -> None:
     """A download that stands still, as that of a machine that sleeps, holds nothing of the database: what is written meanwhile goes from its
     log into its file, which would grow until the disk is full. Read on, it has each value once and in order, also readings of one moment."""
@@ -613,6 +644,9 @@ def test_page_as_a_file(page: PageHouse, tmp_path: Path) -> None:
     refused = run([f"{TOP}/bin/keep_readings", words[3], file], check=False, env=os.environ | {"READING_LIST": "/bin/true"})
     assert refused.returncode == 1 and "which keeps its readings itself" in refused.stderr
     assert (service_tables.APPLICATION, service_tables.VERSION) == (schema.APPLICATION, schema.VERSION)
+    # a copy of an earlier version is shown too
+    page.write("pragma user_version = 1")
+    assert run(words).returncode == 0
 
 
 def test_words_of_the_guide() -> None:

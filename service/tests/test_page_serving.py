@@ -1,6 +1,7 @@
 """The page as a process: served on this machine as it is, elsewhere with TLS; it ends when it is told to, whatever its connections do."""
 from __future__ import annotations
 
+import io
 import os
 import re
 import shutil
@@ -22,6 +23,7 @@ from pathlib import Path
 from typing import Any
 
 import pytest
+from wmbus_service.config import Page
 from wmbus_service.page import serving
 
 from .page_house import TOKEN, PageHouse, forms_word, page_fixture  # noqa: F401
@@ -29,6 +31,8 @@ from .processes import PATIENCE, certificate_of, started, until
 from .test_sessions import house_fixture  # noqa: F401
 
 SERVICE = Path(__file__).resolve().parents[1]
+# more slow connections than a page has places
+COUNT_SLOW = 120
 # what a client of TLS sends first: a record's head, and then nothing
 HALF_A_HANDSHAKE = bytes.fromhex("160301020001")
 # the service on a machine whose localhost has two addresses, as Debian's /etc/hosts gives it
@@ -194,6 +198,27 @@ def test_elsewhere_with_tls(page: PageHouse, tmp_path: Path) -> None:
         assert it.ended() == 0, it.said()
 
 
+def test_a_renewed_certificate(page: PageHouse, tmp_path: Path) -> None:
+    """A certificate that was renewed counts at the next connection; while it and its key don't fit, and where they can't be read, that of
+    before does, and it is said once."""
+    (tmp_path / "new").mkdir()
+    words, before = with_tls(tmp_path)
+    certificate, key = certificate_of(tmp_path / "new")
+    after = ssl.create_default_context(cafile=str(certificate))
+    with served(page, words + with_token(tmp_path)) as it:
+        assert "<h1>Enter</h1>" in fetched(it, before)
+        os.replace(certificate, tmp_path / "certificate")
+        for _ in range(3):
+            assert "<h1>Enter</h1>" in fetched(it, before)
+        assert it.said().count("TLS goes on with the certificate of before") == 1, it.said()
+        os.replace(key, tmp_path / "key")
+        assert "<h1>Enter</h1>" in fetched(it, after)
+        with pytest.raises(OSError):
+            fetched(it, before)
+        (tmp_path / "certificate").unlink()
+        assert "<h1>Enter</h1>" in fetched(it, after) and "Traceback" not in it.said()
+
+
 def test_a_port_that_is_taken(page: PageHouse, tmp_path: Path) -> None:
     """It ends, and names the port, with TLS too."""
     with socket.create_server(("127.0.0.1", 0)) as taken:
@@ -247,6 +272,101 @@ def test_requests_without_end(page: PageHouse, tmp_path: Path, is_with_tls: bool
                     asked.sendall(end)
             assert sent < 1024
         assert ("<h1>Enter</h1>" if trust else "All meters") in fetched(it, trust)
+
+
+def drips(trust: ssl.SSLContext | None) -> list[bytes]:
+    """What goes on without an end where a byte comes at a time: a handshake, a request's head, and its body; with TLS what stands behind
+    the handshake is what is sent within."""
+    incoming, outgoing = ssl.MemoryBIO(), ssl.MemoryBIO()
+    if trust:
+        with suppress(ssl.SSLWantReadError):
+            trust.wrap_bio(incoming, outgoing, server_hostname="127.0.0.1").do_handshake()
+    head = b"Host: 127.0.0.1\r\nX: "
+    form = b"POST /enter HTTP/1.1\r\nHost: 127.0.0.1\r\nContent-Type: application/x-www-form-urlencoded\r\nContent-Length: 60000\r\n\r\n"
+    return [*([outgoing.read()] if trust else []), b"GET /enter HTTP/1.1\r\n" + head + b"a" * 1000, form + b"a" * 1000]
+
+
+@pytest.mark.parametrize("is_with_tls", [False, True])
+def test_slow_connections(page: PageHouse, tmp_path: Path, is_with_tls: bool) -> None:
+    """More connections than it has places, over each of which a handshake, a head or a body comes byte by byte, keep nobody else from the
+    page, and each is ended after seconds."""
+    words, trust = with_tls(tmp_path) if is_with_tls else ("port = 0\n", None)
+    kinds = drips(trust)
+    with served(page, words + with_token(tmp_path)) as it, ExitStack() as opened:
+        port, slow, over = it.port(), list[tuple[socket.socket, bytes]](), threading.Event()
+        for number in range(COUNT_SLOW):
+            plain = opened.enter_context(socket.create_connection(("127.0.0.1", port), PATIENCE))
+            text, is_handshake = kinds[number % len(kinds)], bool(trust) and number % len(kinds) == 0
+            with suppress(OSError):
+                tls = trust.wrap_socket(plain, server_hostname="127.0.0.1") if trust and not is_handshake else plain
+                begun = text.index(b"\r\n\r\n") + 4 if b"POST" in text else 1
+                tls.sendall(text[:begun])
+                slow.append((opened.enter_context(tls), text[begun:]))
+
+        def drip() -> None:
+            for place in range(1000):
+                for connection, text in slow:
+                    with suppress(OSError):
+                        connection.sendall(text[place:place + 1])
+                if over.wait(0.2):
+                    return
+
+        def is_ended(connection: socket.socket) -> bool:
+            try:
+                return not connection.recv(1000)
+            except (BlockingIOError, ssl.SSLWantReadError):
+                return False
+            except OSError:
+                return True
+        opened.callback(over.set)
+        threading.Thread(target=drip, daemon=True).start()
+        before = time.monotonic()
+        assert ("<h1>Enter</h1>" if trust else "All meters") in fetched(it, trust) and time.monotonic() - before < 8
+        for connection, _ in slow:
+            connection.settimeout(0)
+        until(lambda: all(is_ended(connection) for connection, _ in slow), 4 * serving.SECONDS)
+        assert len(slow) > serving.THREADS and "Traceback" not in it.said()
+
+
+def test_a_reader_that_pauses(monkeypatch: pytest.MonkeyPatch) -> None:
+    """Who takes an answer may pause for longer than a request has to come, as in a pager, and gets all of it."""
+    monkeypatch.setattr(serving, "SECONDS", 0.5)
+
+    def app(_environ: object, begin: Any) -> list[bytes]:
+        begin("200 OK", [("Content-Length", str(8 << 20))])
+        return [b"a" * (8 << 20)]
+    server = serving.plain_server(app, Page(port=0))
+    threading.Thread(target=server.run, daemon=True).start()
+    with socket.socket() as plain:
+        plain.setsockopt(socket.SOL_SOCKET, socket.SO_RCVBUF, 4096)
+        plain.settimeout(PATIENCE)
+        plain.connect(("127.0.0.1", serving.port_of(server)))
+        plain.sendall(b"GET / HTTP/1.1\r\nHost: 127.0.0.1\r\nConnection: close\r\n\r\n")
+        time.sleep(6 * serving.SECONDS)
+        with plain.makefile("rb") as told:
+            assert told.read().count(b"a" * 1024) == 8 << 10
+    server.task_dispatcher.shutdown()
+
+
+def test_answers_at_once(page: PageHouse, tmp_path: Path) -> None:
+    """With TLS too no more answers are made at once than there are threads for without, and each has what was asked as a whole."""
+    pytest.importorskip("cheroot", reason="python3-cheroot isn't there")
+    from wmbus_service.page import tls
+    at_once, most, guard = 0, 0, threading.Lock()
+
+    def app(environ: dict[str, Any], _begin: object) -> list[bytes]:
+        nonlocal at_once, most
+        with guard:
+            at_once += 1
+            most = max(most, at_once)
+        time.sleep(0.02)
+        with guard:
+            at_once -= 1
+        return [bytes(environ["wsgi.input"].read())]
+    limited = tls.in_turn(app, serving.THREADS)
+    with ThreadPoolExecutor(8 * serving.THREADS) as asking:
+        told = list(asking.map(lambda it: [*limited({"wsgi.input": io.BytesIO(it)}, None)], asked := [b"%d" % it for it in range(32)]))
+    assert told == [[it] for it in asked] and most == serving.THREADS
 
 
 def test_silent_connections(page: PageHouse, tmp_path: Path) -> None:

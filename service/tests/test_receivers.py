@@ -4,6 +4,7 @@ from __future__ import annotations
 import functools
 import grp
 import io
+import json
 import os
 import pty
 import shutil
@@ -266,6 +267,41 @@ def test_downlinks_that_the_unit_may_write(tmp_path: Path) -> None:
     for path in (Path("/dev/tty"), tmp_path):
         with pytest.raises(Trouble, match="is no file and no pipe"):
             look_at_downlinks("attic", Receiver(downlinks=str(path)))
+
+
+def test_files_one_after_the_other(tmp_path: Path, monkeypatch: pytest.MonkeyPatch) -> None:
+    """Where a file has become great enough the next one goes on behind the end of a line: the radio's program isn't started again for it,
+    and each telegram comes once and whole."""
+    monkeypatch.setattr(receiving, "MOST_BYTES", receiving.ROOM + 100_000)
+    with open(TOP / "examples/receivers/rtl_433.txt", encoding="ascii") as file:
+        told = json.loads(file.readline())
+    count = 3 * receiving.MOST_BYTES // (len(FRAME) + 15)
+    (tmp_path / "printed").write_text("".join(json.dumps(told | {"time": str(1_800_000_000 + number)}) + "\n" for number in range(count)))
+    heard = Heard(tmp_path, Receiver(command=f"echo begun >>{tmp_path}/begun; cat {tmp_path}/printed; sleep 600", format="rtl_433"))
+    try:
+        until(lambda: heard.text().count("\n") >= count)
+    finally:
+        assert heard.child.end(signal.SIGTERM) == 0, heard.log.read_text()
+    lines = [line.split(" ") for line in heard.text().splitlines()]
+    assert [int(moment) for _, moment, _ in lines] == [1_800_000_000 + number for number in range(count)]
+    assert {(letter, frame) for letter, _, frame in lines} == {(lines[0][0], lines[0][2])}
+    sizes = [path.stat().st_size for path in sorted(heard.config.spool.iterdir())]
+    assert len(sizes) > 2 and max(sizes) < receiving.MOST_BYTES and (tmp_path / "begun").read_text() == "begun\n"
+
+
+def test_a_line_that_is_written_last(tmp_path: Path) -> None:
+    """What line_feed writes while its receiver is told to end stays, also as the first line of its file."""
+    line_feed = tmp_path / "line_feed"
+    line_feed.write_text(f"#!/bin/sh\ntrap 'sleep 1; echo a line; exit' TERM\ntouch {tmp_path}/begun\nwhile sleep 0.1; do :; done\n")
+    line_feed.chmod(0o755)
+    config = Config(folder=tmp_path / "wmbus", programs=Programs(line_feed=str(line_feed)),
+                    receivers={"attic": Receiver(command="sleep 600", format="hex")})
+    child = Child(tmp_path / "log", Receiving(config, "attic").run)
+    try:
+        until((tmp_path / "begun").exists)
+    finally:
+        assert child.end(signal.SIGTERM) == 0, (tmp_path / "log").read_text()
+    assert [path.read_text() for path in config.spool.iterdir()] == ["a line\n"]
 
 
 def test_two_writers_of_a_receiver(tmp_path: Path) -> None:

@@ -156,7 +156,7 @@ def test_a_value_with_a_qualifier(house: House) -> None:
     assert [it["volume"] for it in told] == [0.007, 0.008]
     assert [sorted(it.values())[:2] for it in told] == [[0.005, 0.007], [0.006, 0.008]]
     retention.let_go(house.database, Keep(readings=1), NOW + 2 * 86_400)
-    assert house.all("select value from daily") == ["8"]
+    assert house.all("select value, modifiers from daily order by value") == [("6", "3c"), ("8", "")]
 
 
 def test_a_program_that_always_fails(house: House, monkeypatch: pytest.MonkeyPatch) -> None:

@@ -17,10 +17,10 @@ from .memory_files import memory_files, path_of
 from .meters import DOWN_PLACE
 from .publications import Publications
 from .spool import sync
-from .steps import ProgramFailed, run_steps, state_text
+from .steps import MOST_METERS, ProgramFailed, run_steps, state_text
 from .trouble import Trouble
 
-HIGHEST, MOST_METERS = (1 << 32) - 1, 4096
+HIGHEST = (1 << 32) - 1
 SMALLER = "take a smaller margin"
 
 
@@ -165,7 +165,7 @@ def _give_up(config: Config, database: sqlite3.Connection, now: float) -> None:
     database.execute("update outbox set missed = 'restored' where sent is null and missed is null")
     # (the broker has later messages than the copy's; sensors are announced anew)
     database.execute("delete from publication")
-    database.execute("delete from announced")
+    database.execute("update announced set told = 0")
     for (ident,) in cancelled:
         Publications(config.mqtt, database).command(ident)
 

@@ -22,6 +22,7 @@ from .printing import leave_unread, open_streams, parsed
 from .publications import Publications
 from .receiving import Receiving
 from .status import status
+from .steps import MOST_METERS
 from .trouble import Trouble
 
 DONE, TROUBLE = 0, 1
@@ -320,7 +321,7 @@ def _export(asked: argparse.Namespace) -> int:
         raise Trouble("the export", "--meter and --since are of values alone", "leave them out: all meters are in a state and in lines")
     with _opened(_config(asked)) as database:
         if asked.state:
-            _write_own(asked.state, [exporting.state(database)])
+            _write_states(asked.state, exporting.states(database))
         elif asked.lines:
             _write_own(asked.lines, exporting.lines(database))
         else:
@@ -330,6 +331,22 @@ def _export(asked: argparse.Namespace) -> int:
             rows = exporting.as_json if asked.json else exporting.as_csv
             sys.stdout.writelines(rows(database, address, asked.since))
     return DONE
+
+
+def _write_states(path: Path, states: list[str]) -> None:
+    """Writes a state, or several into files with numbers behind their name: all of them, or none."""
+    paths = [path] if len(states) == 1 else [path.with_name(f"{path.name}.{number}") for number in range(1, len(states) + 1)]
+    written: list[Path] = []
+    try:
+        for part, text in zip(paths, states, strict=True):
+            _write_own(part, [text])
+            written.append(part)
+    except BaseException:
+        for part in written:
+            part.unlink()
+        raise
+    if len(paths) > 1:
+        print(f"a state has {MOST_METERS} meters at most, so there are several: {' '.join(map(str, paths))}")
 
 
 def _write_own(path: Path, texts: Iterable[str]) -> None:

@@ -115,6 +115,8 @@ class Mqtt:
     client: str = "wmbus"
     topic: str = "wmbus"
     discovery: str = "homeassistant"
+    # so many messages all wait for a broker that is away; of those before the last of each topic; 0 has all wait
+    waiting: int = 100_000
 
 
 @dataclass(frozen=True)

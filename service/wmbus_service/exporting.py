@@ -4,16 +4,19 @@ from __future__ import annotations
 import csv
 import io
 import json
+import re
 import sqlite3
 from collections.abc import Iterable, Iterator
 
 from . import store
 from .status import shown
-from .steps import state_text
+from .steps import MOST_METERS, state_text
 from .trouble import Trouble
 
 HEAD = ("moment", "address", "name", "counter", "quantity", "value", "unit", "function", "storage", "tariff", "subunit", "receiver",
         "modifiers")
+# how a spreadsheet's formula begins, and numbers that begin so
+FORMULA, NUMBER = re.compile(r"[=+@\t\r-]"), re.compile(r"[+-][0-9][0-9., ]*")
 # readings that are taken at once: between two such pieces nothing of the database is held, however long who asks reads on nothing
 PIECE = 200
 LAST_OF_PIECE = ("select max(id) from (select id from reading where address = coalesce(?, address) and moment >= ? and id > ?"
@@ -34,11 +37,16 @@ def values(database: sqlite3.Connection, address: str | None, since: int) -> Ite
         behind = last
 
 
+def name_cell(name: str) -> str:
+    """A name as spreadsheets take it for a text: one that isn't a number and begins as a formula gets the sign that says so."""
+    return f"'{name}" if FORMULA.match(name) and not NUMBER.fullmatch(name) else name
+
+
 def as_csv(database: sqlite3.Connection, address: str | None, since: int) -> Iterator[str]:
     """The values as lines of CSV."""
     yield _csv_line(HEAD)
     for row in values(database, address, since):
-        yield _csv_line(row.values())
+        yield _csv_line((row | {"name": name_cell(str(row["name"]))}).values())
 
 
 def _csv_line(fields: Iterable[object]) -> str:
@@ -54,12 +62,13 @@ def as_json(database: sqlite3.Connection, address: str | None, since: int) -> It
         yield json.dumps(row) + "\n"
 
 
-def state(database: sqlite3.Connection) -> str:
-    """What is known of all meters, as the programs read it, with their keys."""
+def states(database: sqlite3.Connection) -> list[str]:
+    """What is known of all meters, as the programs read it, with their keys: one state, or several of more meters than one has."""
     own = store.setting(database, "own")
     if own is None:
         raise Trouble("the database", "no meter is known yet")
-    return state_text(own, (block for (block,) in database.execute("select block from meter order by place")))
+    blocks = [block for (block,) in database.execute("select block from meter order by place")]
+    return [state_text(own, blocks[start:start + MOST_METERS]) for start in range(0, max(len(blocks), 1), MOST_METERS)]
 
 
 def lines(database: sqlite3.Connection) -> Iterator[str]:

@@ -16,6 +16,7 @@ from prometheus_client.registry import Collector
 
 from . import store
 from .config import Config, Metrics
+from .status import oldest_publication
 from .trouble import Trouble
 
 if TYPE_CHECKING:
@@ -36,6 +37,8 @@ COUNTERS = {
     "aside": "lines at which the program failed",
     "sessions": "sessions that were committed",
 }
+# what a service has beside what its sessions count
+BESIDE = {"publications_left_out": "messages that weren't published, since too many waited and later ones of their topics did"}
 GAUGES = {
     "meters": ("meters that are known", "select count(*) from meter"),
     "publications_waiting": ("messages that the broker hasn't acknowledged", "select count(*) from publication"),
@@ -62,12 +65,14 @@ class Figures(Collector):
 
     def _of(self, database: sqlite3.Connection) -> Iterator[Metric]:
         totals = dict(database.execute("select name, value from total").fetchall())
-        for name, words in COUNTERS.items():
+        for name, words in (COUNTERS | BESIDE).items():
             counter = CounterMetricFamily(f"wmbus_{name}", f"{words}, over all starts")
             counter.add_metric([], totals.get(name, 0))
             yield counter
         for name, (words, query) in GAUGES.items():
             yield GaugeMetricFamily(f"wmbus_{name}", words, value=database.execute(query).fetchone()[0])
+        yield GaugeMetricFamily("wmbus_publications_oldest_seconds", "since the oldest message that the broker hasn't acknowledged waits",
+                                value=oldest_publication(database, time.time()))
         yield GaugeMetricFamily("wmbus_session_age_seconds", "since the service last looked for lines",
                                 value=time.monotonic() - self.service.session_made)
         yield GaugeMetricFamily("wmbus_trouble", "1 where sessions stand still, and the log says why",

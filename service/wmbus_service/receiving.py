@@ -7,6 +7,7 @@ import logging
 import os
 import re
 import resource
+import select
 import shlex
 import signal
 import subprocess
@@ -23,8 +24,9 @@ from .trouble import Trouble
 log = logging.getLogger("wmbus")
 
 PAUSE, LOOK, GRACE = 2.0, 60.0, 5.0
-# of each file's writer; the next one begins a new file
-MOST_BYTES = 64 << 20
+# of each file's writer; in front of so much more as it may have to print then the next one begins a new file
+MOST_BYTES, ROOM = 64 << 20, 1 << 20
+CHUNK = 1 << 16
 NUMBER = re.compile(r"\.(\d+)\.\d+\.lines$")
 # of each profile: the command, and the format in which line_feed takes what it prints
 PROFILES = {
@@ -105,41 +107,73 @@ class Receiving:
             os.close(new_file(self.config.spool, self.name))
 
     def _feed(self) -> None:
-        """One feed to its end, into a file of its own."""
-        opened = new_file(self.config.spool, self.name)
-        path = Path(os.readlink(f"/proc/self/fd/{opened}"))
+        """One feed to its end, into one file after the other."""
+        rest: bytes | None = b""
         try:
-            self._feed_into(opened)
+            while rest is not None and not self.ending.is_set():
+                opened = new_file(self.config.spool, self.name)
+                path = Path(os.readlink(f"/proc/self/fd/{opened}"))
+                try:
+                    rest = self._feed_into(opened, rest)
+                finally:
+                    os.close(opened)
+                    with suppress(FileNotFoundError):
+                        # (where a stick isn't there, and no service takes files away, there would be more and more)
+                        if not path.stat().st_size:
+                            path.unlink()
+                if spooled_bytes(self.config.spool) >= self.config.spool_bytes:
+                    break
         finally:
-            with suppress(FileNotFoundError):
-                # (where a stick isn't there, and no service takes files away, there would be more and more)
-                if not path.stat().st_size:
-                    path.unlink()
-
-    def _feed_into(self, opened: int) -> None:
-        """The same into an open file, which it closes."""
-        try:
-            radio = subprocess.Popen(["/bin/sh", "-c", self.command], stdin=subprocess.DEVNULL, stdout=subprocess.PIPE, env=environment(),
-                                     start_new_session=True)
-            words = [*words_of(self.config.programs.line_feed), self.form]
-            self.running = [radio]
-            self.running.append(subprocess.Popen(words, stdin=radio.stdout, stdout=opened, start_new_session=True, preexec_fn=limit_file))
-            assert radio.stdout is not None
-            radio.stdout.close()
-        except OSError as fault:
             self._end_feed()
+
+    def _feed_into(self, opened: int, begun: bytes) -> bytes | None:
+        """Has line_feed fill an open file: first with what the radio printed behind the last one, and then on until it is great enough. What
+        it printed behind this one; none once the feed ended."""
+        words = [*words_of(self.config.programs.line_feed), self.form]
+        try:
+            if not self.running:
+                self.running = [subprocess.Popen(["/bin/sh", "-c", self.command], stdin=subprocess.DEVNULL, stdout=subprocess.PIPE,
+                                                 env=environment(), start_new_session=True)]
+            radio = self.running[0]
+            feed = subprocess.Popen(words, stdin=subprocess.PIPE, stdout=opened, start_new_session=True, preexec_fn=limit_file)
+        except OSError as fault:
             raise Trouble(f"receivers.{self.name}", f"line_feed can't be started: {fault.strerror}", "name it under [programs]") from None
-        finally:
-            os.close(opened)
-        if not self.ending.is_set():
-            self.running[1].wait()
-        self._end_feed()
+        self.running = [radio, feed]
+        assert radio.stdout is not None and feed.stdin is not None
+        with suppress(BrokenPipeError):
+            try:
+                return self._pass_on(radio.stdout.fileno(), feed, opened, begun)
+            finally:
+                # (its last lines stand in the file by then)
+                feed.stdin.close()
+                if self.ending.is_set():
+                    self._end_feed()
+                feed.wait()
+        return None
+
+    def _pass_on(self, printed: int, feed: subprocess.Popen[bytes], opened: int, content: bytes) -> bytes | None:
+        """Passes on what the radio prints, until the file is great enough: then up to the end of a line. What is left; none once it ended."""
+        assert feed.stdin is not None
+        while not self.ending.is_set() and feed.poll() is None:
+            place = content.find(b"\n") + 1 if os.fstat(opened).st_size >= MOST_BYTES - ROOM else 0
+            put(feed.stdin.fileno(), content[:place] if place else content)
+            if place:
+                return content[place:]
+            content = b""
+            if select.select([printed], [], [], PAUSE)[0]:
+                content = os.read(printed, CHUNK)
+                if not content:
+                    return None
+        return None
 
     def _end_feed(self) -> None:
         """Ends what this receiver started."""
         self._signal(signal.SIGTERM)
         for child in self.running:
             end_group(child)
+            if child.stdout:
+                child.stdout.close()
+        self.running = []
 
     def _signal(self, number: int) -> None:
         """Sends a signal to all that still runs of the feed."""
@@ -147,6 +181,12 @@ class Receiving:
             if child.returncode is None:
                 with suppress(ProcessLookupError):
                     os.killpg(child.pid, number)
+
+
+def put(opened: int, content: bytes) -> None:
+    """Writes all of it into a pipe, which a signal may come between."""
+    while content:
+        content = content[os.write(opened, content):]
 
 
 def end_group(child: subprocess.Popen[bytes]) -> None:

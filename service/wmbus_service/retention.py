@@ -2,24 +2,77 @@
 from __future__ import annotations
 
 import json
+import logging
 import sqlite3
+import time
 
 from .config import Keep
 from .store import set_setting, setting, transaction
 
+log = logging.getLogger("wmbus")
+
 DAY = 86_400.0
+# so much faster than time the moment goes on from which ages are reckoned, where the clock went forward: a day an hour
+CATCHES_UP = 24.0
+# in front of the first day of 2026 no clock is set
+LEAST = 1_767_225_600.0
+# so often the moment is written down
+NOTED = 600.0
 # rows of a transaction, so that sessions wait for none of them long
 PIECE = 1000
 # when a reading was heard, as the page tells it: by its receiver's clock, where that one has a time that isn't after its session's
 HEARD = "case when moment between 100000000 and made + 3600 then moment else made end"
-VALUES = "address, quantity, unit, exponent, value, function, storage, tariff, subunit"
+VALUES = "address, quantity, unit, exponent, value, function, storage, tariff, subunit, modifiers"
 
 
-def let_go(database: sqlite3.Connection, keep: Keep, now: float) -> int:
-    """Lets go what is older than it is kept, a piece of each; how many rows."""
+class Ages:
+    """The moment from which it is reckoned how old something is. It goes on with the clock, but where that went forward by a day an hour at
+    most: what a clock that is wrong for an hour takes with it would have gone on the day after."""
+
+    def __init__(self, database: sqlite3.Connection) -> None:
+        self.database, self.looked = database, time.monotonic()
+        self.told: float | None = None
+        self.is_behind = False
+
+    def moment(self, now: float) -> float | None:
+        """The moment; none where the clock isn't set."""
+        if now < LEAST:
+            return None
+        passed = time.monotonic() - self.looked
+        if self.told is None or passed >= NOTED:
+            with transaction(self.database):
+                before = setting(self.database, "ages") or self._last_reading() or now
+                self.told = min(now, float(before) + CATCHES_UP * passed)
+                set_setting(self.database, "ages", str(self.told))
+            self.looked += passed
+        self.told = min(now, self.told)
+        was_behind, self.is_behind = self.is_behind, now - self.told > DAY
+        if self.is_behind and not was_behind:
+            log.warning("%s", went_forward(now - self.told))
+        return self.told
+
+    def _last_reading(self) -> float | None:
+        """When the last reading was made by a clock that was set."""
+        (made,) = self.database.execute("select max(made) from reading where made >= ?", (LEAST,)).fetchone()
+        return None if made is None else float(made)
+
+
+def seconds_behind(database: sqlite3.Connection, now: float) -> float:
+    """By how much the clock is ahead of the moment from which ages are reckoned."""
+    return max(0.0, now - float(setting(database, "ages") or now))
+
+
+def went_forward(seconds: float) -> str:
+    """What is said of it."""
+    return (f"the clock of this machine went forward by {seconds // DAY:.0f} days: by it old lines and readings go only a day further each"
+            " hour; where it is wrong, set it right")
+
+
+def let_go(database: sqlite3.Connection, keep: Keep, now: float, clock: float | None = None) -> int:
+    """Lets go what at a moment is older than it is kept, a piece of each; how many rows. The clock may be ahead of the moment."""
     count = 0
     if keep.lines:
-        count += _forget_lines(database, now - keep.lines * DAY, now)
+        count += _forget_lines(database, now - keep.lines * DAY, clock or now)
     if keep.payloads:
         count += _forget_payloads(database, now - keep.payloads * DAY)
     if keep.readings:
@@ -53,12 +106,9 @@ def _gather_days(database: sqlite3.Connection, before: float) -> int:
     with transaction(database):
         rows = database.execute("select id from reading where made < ? order by made, id limit ?", (before, PIECE)).fetchall()
         oldest = [ident for (ident,) in rows]
-        chosen = (f"into daily (day, {VALUES}) select date({HEARD}, 'unixepoch'), {VALUES} from"
-                  " (select value as ident from json_each(?)) cross join reading on reading.id = ident"
-                  " cross join record on record.reading = reading.id where modifiers")
-        # (what has modifiers takes no place of what has none, also where that one went before)
-        database.execute(f"insert or ignore {chosen} != '' order by reading.id desc, record.place", (json.dumps(oldest),))
         # (what stays of several is written last: what stands first in the day's last reading)
-        database.execute(f"insert or replace {chosen} = '' order by reading.id, record.place desc", (json.dumps(oldest),))
+        database.execute(f"insert or replace into daily (day, {VALUES}) select date({HEARD}, 'unixepoch'), {VALUES} from"
+                         " (select value as ident from json_each(?)) cross join reading on reading.id = ident"
+                         " cross join record on record.reading = reading.id order by reading.id, record.place desc", (json.dumps(oldest),))
         database.executemany("delete from reading where id = ?", [(ident,) for ident in oldest])
         return len(oldest)

@@ -52,6 +52,39 @@ create table aside (id integer primary key, receiver text, text text not null, s
 create table total (name text primary key, value integer not null) without rowid;
 """
 
+# a register of a day is told apart by its unit and its modifiers too; of what is kept already these aren't known, and it counts for one
+# without any
+DAYS = """
+alter table daily rename to daily_of_before;
+create table daily (
+    address text, day text, quantity text, unit text, exponent integer, value text, function text, storage integer, tariff integer,
+    subunit integer, modifiers text,
+    primary key (address, day, quantity, unit, function, storage, tariff, subunit, modifiers)) without rowid;
+insert into daily select address, day, quantity, unit, exponent, value, function, storage, tariff, subunit, '' from daily_of_before;
+drop table daily_of_before;
+"""
+
+# what went wrong is found without a look at all that went right
+FAILED = """
+create index command_failed on command (changed) where state in ('expired', 'refused');
+create index outbox_missed on outbox (id) where missed is not null;
+"""
+
+# since when a message waits, and which is the last one of its topic
+WAITING = """
+alter table publication add column made real;
+create index publication_of_topic on publication (topic);
+"""
+
+# a sensor's unit, which it has for ever (of those of before it isn't known), and whether the broker of now was told of it
+UNITS = """
+alter table announced add column unit text;
+alter table announced add column told integer not null default 1;
+"""
+
+# lines of a state that an earlier service took for meters', where it was named as a roster
+NO_METERS = "delete from meter where substr(block, 1, 6) <> 'meter ';\n"
+
 # the statements that make of version N the version N + 1
-MIGRATIONS = (FIRST,)
+MIGRATIONS = (FIRST, DAYS, FAILED, WAITING, UNITS, NO_METERS)
 VERSION = len(MIGRATIONS)

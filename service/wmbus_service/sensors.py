@@ -84,3 +84,8 @@ def name_of(record: dict[str, Any]) -> str:
     if record["function"] != "instantaneous":
         parts.append(record["function"])
     return "_".join(parts + [f"{word}{record[word]}" for word in ("storage", "tariff", "subunit") if record[word]])
+
+
+def name_in_unit(name: str, kind: Kind) -> str:
+    """The name of a value whose unit isn't that of the sensor of its name: letters and digits, as topics and templates have them."""
+    return f"{name}_{re.sub('[^A-Za-z0-9]', '', (kind.unit or 'number').replace('³', '3'))}"

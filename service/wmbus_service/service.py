@@ -91,6 +91,7 @@ class Service:
         self.session_made = time.monotonic()
         self.trouble = ""
         self.let_go_at = 0.0
+        self.ages = retention.Ages(database)
 
     def run(self) -> None:
         """Sessions one after the other; after trouble the same lines come again."""
@@ -132,8 +133,11 @@ class Service:
     def _let_go(self, pieces: int) -> None:
         """Lets go what is kept no longer; with each session more than it had lines, since in a large house no session may have none."""
         for _ in range(pieces):
-            if time.monotonic() > self.let_go_at and not retention.let_go(self.database, self.config.keep, time.time()):
-                self.let_go_at = time.monotonic() + LET_GO
+            if time.monotonic() > self.let_go_at:
+                now = time.time()
+                moment = self.ages.moment(now)
+                if moment is None or not retention.let_go(self.database, self.config.keep, moment, now):
+                    self.let_go_at = time.monotonic() + LET_GO
 
     def _tell(self, fault: Exception) -> None:
         """Says what is the matter, once as long as it is the same."""

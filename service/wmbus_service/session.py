@@ -10,7 +10,7 @@ from collections.abc import Collection, Sequence
 from . import events, store
 from .config import Config, words_of
 from .events import Event
-from .publications import Publications
+from .publications import Publications, Waiting
 from .spool import Spool, put_places
 from .steps import ProgramFailed, Told, run_steps, state_text
 from .trouble import Trouble
@@ -34,6 +34,7 @@ class Sessions:
         self.most = MOST
         # the line alone at which the program failed last
         self.suspect: Event | None = None
+        self.waiting = Waiting(config.mqtt, database)
 
     def next(self, now: float) -> int:
         """One session over what is there; how many lines it took."""
@@ -62,6 +63,7 @@ class Sessions:
         told = self._told(batch)
         put_places(self.database, [event.spooled for event in batch if event.spooled])
         Writing(self.config, self.database, now).write(batch, told)
+        self.waiting.bound()
 
     def _told(self, batch: Sequence[Event]) -> Told:
         """What the program says, over the blocks of the meters for which it says that the lines are."""

@@ -11,7 +11,7 @@ from typing import Any
 from . import service, store
 from .asking import Database
 from .config import Config
-from .retention import HEARD
+from .retention import DAY, HEARD, seconds_behind, went_forward
 from .sensors import NUMBER
 from .spool import size_of
 
@@ -24,8 +24,11 @@ def figures(config: Config, database: sqlite3.Connection) -> dict[str, Any]:
     """All that is told, as data."""
     now = time.time()
     meters = database.execute("select address, name, waits, holds, receiver from meter order by place").fetchall()
+    is_running = service.is_locked(config.folder)
     return {
-        "running": service.is_locked(config.folder),
+        "running": is_running,
+        # (where it doesn't run nothing is let go, and no clock does harm)
+        "clock_went_forward": round(seconds_behind(database, now)) if is_running else 0,
         "totals": dict(database.execute("select name, value from total order by name").fetchall()),
         "meters": [meter(database, row, now) for row in meters],
         "commands": _rows(database, "select id, address, kind, state, tries, reason from command"
@@ -37,6 +40,7 @@ def figures(config: Config, database: sqlite3.Connection) -> dict[str, Any]:
                                      f" order by times desc limit {LAST}"),
         "aside": _rows(database, f"select id, receiver, text, said from aside order by id desc limit {LAST}"),
         "publications_waiting": database.execute("select count(*) from publication").fetchone()[0],
+        "publications_oldest_seconds": round(oldest_publication(database, now)),
         "spooled_bytes": waiting_bytes(config, database),
     }
 
@@ -70,6 +74,12 @@ def shown(value: str, exponent: int) -> str:
     return f"{Decimal(f'{value}E{exponent}'):f}" if NUMBER.fullmatch(value) else value
 
 
+def oldest_publication(database: Database, now: float) -> float:
+    """For how many seconds the message for the broker that waits longest has waited."""
+    row = database.execute("select made from publication order by id limit 1").fetchone()
+    return max(0.0, now - float(row[0])) if row and row[0] is not None else 0.0
+
+
 def waiting_bytes(config: Config, database: Database) -> int:
     """How many bytes of lines no session has taken yet."""
     taken = dict(database.execute("select file, taken from source").fetchall())
@@ -79,6 +89,8 @@ def waiting_bytes(config: Config, database: Database) -> int:
 def in_words(told: dict[str, Any]) -> Iterator[str]:
     """The figures line by line."""
     yield "the service runs" if told["running"] else "the service doesn't run: systemctl start wmbus"
+    if told["clock_went_forward"] > DAY:
+        yield went_forward(told["clock_went_forward"])
     totals = told["totals"]
     yield f"{totals.get('lines', 0)} lines heard, {totals.get('stored', 0)} readings; {told['spooled_bytes']} bytes wait in the spool"
     for it in told["meters"]:
@@ -98,7 +110,10 @@ def in_words(told: dict[str, Any]) -> Iterator[str]:
     for it in told["aside"]:
         yield f"set aside, since the program fails at it: line {it['id']} of {it['receiver'] or 'the service'}: {it['said']}"
     if told["publications_waiting"]:
-        yield f"{told['publications_waiting']} messages wait for the MQTT broker"
+        yield (f"{told['publications_waiting']} messages wait for the MQTT broker, the oldest for"
+               f" {told['publications_oldest_seconds'] // 3600} hours")
+    if left_out := totals.get("publications_left_out"):
+        yield f"{left_out} messages weren't published, since too many waited for the MQTT broker, later ones of their topics among them"
 
 
 def status(config: Config, is_json: bool) -> str:

@@ -46,6 +46,10 @@ class Told:
     counts: dict[str, Any] = field(default_factory=dict)
 
 
+# of a state (docs/FORMATS.md, "The state")
+MOST_METERS = 4096
+
+
 def state_text(own: str, blocks: Iterable[str]) -> str:
     """The state of some meters, as the program reads it."""
     return "".join(["wmbus-state 1\n", f"own {own}\n", *blocks, "end\n"])

@@ -8,7 +8,7 @@ from typing import Any
 from ..asking import Database
 from ..config import Config
 from ..service import is_locked
-from ..status import waiting_bytes
+from ..status import oldest_publication, waiting_bytes
 from .radios import Radio
 from .reading import Meter, rows_of, strangers
 from .shared import REPEATS, WRONG_KEY, counted, row_of, time_text, times, words_of_page
@@ -24,6 +24,8 @@ RECENT = 14 * DAY
 OFTEN = 20
 MOST = 100
 WAITING_BYTES = 1 << 20
+# for so long a message for the broker may wait
+WAITING_SECONDS = HOUR
 STATES = {
     "waiting": "waits for the next session", "queued": "waits until the meter listens", "sent": "sent, and not confirmed yet",
     "confirmed": "confirmed by the meter", "expired": "given up: it was sent three times without an answer", "cancelled": "cancelled",
@@ -103,7 +105,7 @@ def radio_looks(radio: Radio, now: float) -> Iterator[Look]:
 
 def all_looks(config: Config, database: Database, meters: list[Meter], radios: list[Radio], now: float) -> list[Look]:
     """All that needs a person, what stands above all meters first."""
-    found = list(_of_service(config, database))
+    found = list(_of_service(config, database, now))
     for radio in radios:
         found += radio_looks(radio, now)
     refusals: dict[str, list[dict[str, Any]]] = {}
@@ -117,12 +119,15 @@ def all_looks(config: Config, database: Database, meters: list[Meter], radios: l
     return sorted(found, key=lambda it: it.kind != "bad")
 
 
-def _of_service(config: Config, database: Database) -> Iterator[Look]:
+def _of_service(config: Config, database: Database, now: float) -> Iterator[Look]:
     """What keeps the whole service from its work."""
     if not is_locked(config.folder):
         yield Look("bad", "stands still", "The service", "/receivers", "It doesn't run: systemctl start wmbus. Its log says why it ended.")
     if waiting_bytes(config, database) > WAITING_BYTES:
         yield Look("look", "lags", "The service", "/receivers", "Many lines wait in the spool. Its log says whether sessions stand still.")
+    if config.mqtt and oldest_publication(database, now) > WAITING_SECONDS:
+        yield Look("look", "messages wait", "The MQTT broker", "/receivers",
+                   f"Since {time_text(int(now - oldest_publication(database, now)))} it takes none. Its log and that of the service say why.")
     for row in rows_of(database, "select id, receiver, said, made from aside order by id desc limit 10"):
         yield Look("bad", "line set aside", f"Line {row['id']} of {row['receiver'] or 'the service'}", "/receivers",
                    f"The program failed at it: {row['said'][:200]}. Tell the makers of this program.")
@@ -131,7 +136,7 @@ def _of_service(config: Config, database: Database) -> Iterator[Look]:
 def _of_commands(database: Database, titles: dict[str, str], now: float) -> Iterator[Look]:
     """Commands that were given up, and downlinks that didn't go out."""
     for row in rows_of(database, "select id, address, state, reason from command where state in ('expired', 'refused') and changed > ?"
-                                 " order by rowid desc limit ?", (now - RECENT, MOST)):
+                                 " order by changed desc limit ?", (now - RECENT, MOST)):
         words = "given up" if row["state"] == "expired" else "refused"
         yield Look("look", f"command {words}", titles.get(row["address"], row["address"]), f"/meters/{row['address']}",
                    f"Command {row['id']}: {row['reason'] or STATES[row['state']]}. Queue it again once the meter is in reach.")

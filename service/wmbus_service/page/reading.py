@@ -225,17 +225,13 @@ def points_of(database: Database, address: str, register: Register, bounds: Sequ
 
 
 def day_values(database: Database, address: str, register: Register) -> Iterator[tuple[str, str]]:
-    """The last values of days whose readings are gone: day and number. They are kept as if registers had no modifiers, and count for those
-    that have none."""
-    if register.modifiers:
-        return
-    rows = database.execute("select day, exponent, value from daily where address = ? and quantity = ? and unit = ? and function = ?"
-                            " and storage = ? and tariff = ? and subunit = ? order by day",
-                            (address, register.quantity, register.unit, register.function, register.storage, register.tariff,
-                             register.subunit))
-    for day, exponent, value in rows:
-        if NUMBER.fullmatch(value) and abs(exponent) <= MOST_POWER:
-            yield day, exact(value, exponent)
+    """The last values of days whose readings are gone: day and number. (A store that keeps none has no modifiers there.)"""
+    rows = rows_of(database, "select * from daily where address = ? and quantity = ? and unit = ? and function = ? and storage = ?"
+                             " and tariff = ? and subunit = ? order by day",
+                   (address, register.quantity, register.unit, register.function, register.storage, register.tariff, register.subunit))
+    for row in rows:
+        if row.get("modifiers", "") == register.modifiers and NUMBER.fullmatch(row["value"]) and abs(row["exponent"]) <= MOST_POWER:
+            yield row["day"], exact(row["value"], row["exponent"])
 
 
 def rows_of(database: Database, query: str, given: Sequence[object] = ()) -> list[dict[str, Any]]:

@@ -19,6 +19,8 @@ log = logging.getLogger("wmbus")
 
 LEAST_TOKEN = 24
 THREADS = 4
+# so long a request may take to come as a whole
+SECONDS = 5.0
 # so long an answer that is on its way has when the page is to end
 GRACE = 3.0
 
@@ -115,10 +117,46 @@ def plain_server(app: object, page: Page) -> Any:
     # (that requests wait for a moment is no trouble)
     logging.getLogger("waitress.queue").setLevel(logging.ERROR)
     try:
-        return waitress.create_server(app, host=page.host, port=page.port, threads=THREADS, ident=None,
-                                      max_request_header_size=MOST_HEAD, max_request_body_size=MOST_BODY)
+        server: Any = waitress.create_server(app, host=page.host, port=page.port, threads=THREADS, ident=None,
+                                             max_request_header_size=MOST_HEAD, max_request_body_size=MOST_BODY, cleanup_interval=1)
     except OSError as fault:
         raise _unserved(page, fault) from None
+    limit_requests(server)
+    return server
+
+
+def limit_requests(server: Any) -> None:
+    """Has a server without TLS, or each of those of a name's addresses, end connections whose request goes on for too long: it holds as
+    many as there may be, and each piece of one would give it its time anew. Who takes an answer may pause."""
+    from waitress.channel import HTTPChannel
+    from waitress.server import BaseWSGIServer
+
+    class Channel(HTTPChannel):  # type: ignore[misc]
+        """A connection."""
+
+        request: Any
+        last_activity: float
+
+        def __init__(self, *given: Any, **named: Any) -> None:
+            super().__init__(*given, **named)
+            self.begun = self.last_activity
+            self.limit()
+
+        def limit(self) -> None:
+            """From here on nothing more may come once the request's time is over, since the server thinks that nothing has for long."""
+            self.last_activity = self.begun + SECONDS - self.adj.channel_timeout
+
+        def received(self, data: bytes) -> bool:
+            """Takes what came."""
+            now, request = self.last_activity, self.request
+            told = bool(super().received(data))
+            if self.request is not None:
+                self.begun = self.begun if self.request is request else now
+                self.limit()
+            return told
+    for it in server.map.values() if hasattr(server, "map") else [server]:
+        if isinstance(it, BaseWSGIServer):
+            it.channel_class = Channel
 
 
 def port_of(server: Any) -> int:
@@ -133,7 +171,7 @@ def server_with_tls(app: object, page: Page) -> Any:
     except ImportError:
         raise Trouble("page.certificate", "TLS needs cheroot, which isn't there", "apt-get install python3-cheroot") from None
     try:
-        return server_of(app, page, THREADS)
+        return server_of(app, page, THREADS, SECONDS)
     except OSError as fault:
         raise Trouble(page.certificate, f"TLS can't be begun: {fault}", "look at page.certificate and page.key") from None
 

@@ -9,7 +9,7 @@ from typing import Any
 
 from ..asking import Database
 from ..config import Config
-from ..exporting import HEAD
+from ..exporting import HEAD, name_cell
 from . import looks, periods, radios
 from .reading import (
     Meter, Value, all_meters, commands_of, count_commands, exact, last_values, one_meter, refusals_of, rows_of, strangers,
@@ -104,7 +104,7 @@ def readings_csv(database: Database, addresses: list[str], begin: int, end: int)
     yield _csv_line(HEAD)
     for address in addresses:
         for moment, meter, name, counter, quantity, value, exponent, *rest in _values(database, address, begin, end):
-            yield _csv_line((moment, meter, name or "", counter, quantity, exact(value, exponent), *rest))
+            yield _csv_line((moment, meter, name_cell(name or ""), counter, quantity, exact(value, exponent), *rest))
 
 
 def _values(database: Database, address: str, begin: int, end: int) -> Iterator[tuple[Any, ...]]:
