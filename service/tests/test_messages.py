@@ -587,19 +587,31 @@ def test_metrics(house: House, mosquitto: Mosquitto) -> None:
     served.end()
 
 
-def test_silent_connections_to_the_metrics(house: House, monkeypatch: pytest.MonkeyPatch) -> None:
-    """Who connects and says nothing, as anybody on the machine may, takes neither a thread nor an open file each of the service, which
-    sessions need; the metrics are had all the same."""
-    monkeypatch.setattr(metrics.Asked, "timeout", 0.2)
+def test_silent_and_slow_connections_to_the_metrics(house: House, monkeypatch: pytest.MonkeyPatch) -> None:
+    """Who connects and says nothing, or a byte now and then, as anybody on the machine may, has no metrics wait, and takes neither threads nor
+    open files that sessions need."""
+    monkeypatch.setattr(metrics, "SILENCE", 1.0)
     port = free_port()
     metrics.serve(house.config, Metrics(port=port), service.Service(house.config, house.database))
     threads = threading.active_count()
-    held = [socket.create_connection(("127.0.0.1", port)) for _ in range(4)]
-    with closing(urllib.request.urlopen(f"http://127.0.0.1:{port}/metrics", timeout=PATIENCE)) as answer:
+    slow, *silent = [socket.create_connection(("127.0.0.1", port)) for _ in range(100)]
+
+    def send_slowly() -> None:
+        with suppress(OSError):
+            while True:
+                slow.send(b"G")
+                time.sleep(0.05)
+    sending = threading.Thread(target=send_slowly, daemon=True)
+    sending.start()
+    with closing(urllib.request.urlopen(f"http://127.0.0.1:{port}/metrics", timeout=10)) as answer:
         assert b"wmbus_trouble 0" in answer.read()
-    assert threading.active_count() <= threads
-    for opened in held:
-        opened.close()
+    assert threading.active_count() <= threads + 40
+    sending.join(PATIENCE)
+    assert not sending.is_alive()
+    for opened in silent:
+        opened.settimeout(PATIENCE)
+        assert opened.recv(1) == b""
+    until(lambda: threading.active_count() <= threads)
 
 
 def test_metrics_port_that_is_taken(house: House) -> None:

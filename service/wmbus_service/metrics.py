@@ -5,9 +5,11 @@ import socket
 import sqlite3
 import threading
 import time
+from collections import deque
 from collections.abc import Iterator
 from contextlib import suppress
-from typing import TYPE_CHECKING
+from socketserver import ThreadingMixIn
+from typing import TYPE_CHECKING, Any
 from wsgiref.simple_server import WSGIRequestHandler, WSGIServer, make_server
 
 from prometheus_client import CollectorRegistry, make_wsgi_app
@@ -22,8 +24,8 @@ from .trouble import Trouble
 if TYPE_CHECKING:
     from .service import Service
 
-# so long who connects has to say what is asked for
-SILENCE = 5.0
+# so long a connection has for all that is asked and answered over it, and so many are open at once
+SILENCE, MOST = 5.0, 32
 COUNTERS = {
     "lines": "lines of receivers that were heard",
     "orders": "lines for commands, keys and ticks",
@@ -80,9 +82,7 @@ class Figures(Collector):
 
 
 class Asked(WSGIRequestHandler):
-    """What is asked over a connection, which ends where that doesn't come in time; nothing of it is logged."""
-
-    timeout = SILENCE
+    """What is asked over a connection; nothing of it is logged."""
 
     def handle(self) -> None:
         """Reads, and answers."""
@@ -93,17 +93,50 @@ class Asked(WSGIRequestHandler):
         """Nothing."""
 
 
+class Server(ThreadingMixIn, WSGIServer):
+    """Answers several at once. A connection whose time is over is cut off, whatever comes over it, and the oldest one where too many are
+    open: who asks for the metrics is done by then."""
+
+    daemon_threads = True
+
+    def __init__(self, address: tuple[str, int], handler: type[Asked]) -> None:
+        self.held: deque[tuple[float, socket.socket]] = deque()
+        super().__init__(address, handler)
+
+    def process_request(self, request: Any, client_address: Any) -> None:
+        """A connection, which a thread of its own answers."""
+        self.held.append((time.monotonic(), request))
+        if len(self.held) > MOST:
+            self._cut_off()
+        super().process_request(request, client_address)
+
+    def service_actions(self) -> None:
+        """Looks for those whose time is over, twice a second at least."""
+        while self.held and self.held[0][0] < time.monotonic() - SILENCE:
+            self._cut_off()
+
+    def _cut_off(self) -> None:
+        _, request = self.held.popleft()
+        # (most have long been answered, and are closed)
+        with suppress(OSError):
+            request.shutdown(socket.SHUT_RDWR)
+
+
+def serve_figures(told: Metrics, registry: CollectorRegistry) -> None:
+    """Shows metrics at an address of any family."""
+    class OfFamily(Server):
+        """A server of that family."""
+    OfFamily.address_family = socket.getaddrinfo(told.host, told.port, type=socket.SOCK_STREAM)[0][0]
+    server = make_server(told.host, told.port, make_wsgi_app(registry), OfFamily, Asked)
+    threading.Thread(target=server.serve_forever, name="metrics", daemon=True).start()
+
+
 def serve(config: Config, told: Metrics, service: Service) -> None:
-    """Shows the metrics, one connection after the other: each of many silent ones would hold a thread and an open file of the service."""
+    """Shows the service's metrics."""
     registry = CollectorRegistry()
     registry.register(Figures(config, service))
-
-    class Server(WSGIServer):
-        """A server at an address of any family."""
     try:
-        Server.address_family = socket.getaddrinfo(told.host, told.port, type=socket.SOCK_STREAM)[0][0]
-        server = make_server(told.host, told.port, make_wsgi_app(registry), Server, Asked)
-        threading.Thread(target=server.serve_forever, name="metrics", daemon=True).start()
+        serve_figures(told, registry)
     except (OSError, OverflowError, UnicodeError) as fault:
         raise Trouble(f"metrics {told.host}:{told.port}", f"they can't be served: {fault}",
                       "name another host or port under [metrics]") from None

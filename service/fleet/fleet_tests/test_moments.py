@@ -45,6 +45,7 @@ from wmbus_fleet.messages import LAST, Again, Down, Message, down_body, frames_i
 from wmbus_fleet.retention import Retention
 from wmbus_fleet.status import figures, in_words
 from wmbus_fleet.view.app import create_app
+from wmbus_service import metrics as of_service
 from wmbus_service import store as service_store
 from wmbus_service.config import Config as ServiceConfig
 from wmbus_service.config import Receiver
@@ -1261,7 +1262,7 @@ def test_where_no_metrics_can_be(told: Metrics) -> None:
 def test_silent_and_slow_connections_to_the_metrics(monkeypatch: pytest.MonkeyPatch) -> None:
     """Who connects and says nothing, or a byte now and then, as anybody may who reaches the port, holds nothing for longer than a moment, and
     however many do, the metrics are had meanwhile."""
-    monkeypatch.setattr(metrics, "SILENCE", 1.0)
+    monkeypatch.setattr(of_service, "SILENCE", 1.0)
     monkeypatch.setattr(metrics, "take", lambda _config: metrics.Taken(counters={"heard": 5.0}))
     ending, port = Ending(), own_servers.free_port()
     serving = threading.Thread(target=metrics.run, args=(Config(metrics=Metrics(port=port)), ending))
@@ -1301,7 +1302,7 @@ def test_what_metrics_lack_is_said_once(fleet: Fleet, monkeypatch: pytest.Monkey
         return take(fleet.config if turns in (5, 6) else replace(fleet.config, broker=nowhere))
     monkeypatch.setattr(metrics, "take", taken)
     monkeypatch.setattr(metrics, "INTERVAL", 0.01)
-    monkeypatch.setattr(metrics, "serve", lambda *_: None)
+    monkeypatch.setattr(metrics, "serve_figures", lambda *_: None)
     metrics.run(fleet.config, ending)
     said = [it.getMessage() for it in caplog.records if it.getMessage().startswith("the metrics: ")]
     assert ["no database" in it for it in said] == [True, False, False] and all("port 1" in it for it in said[1:])

@@ -2,24 +2,20 @@
 from __future__ import annotations
 
 import logging
-import socket
-import threading
 import time
-from collections import deque
 from collections.abc import Iterator
-from contextlib import closing, suppress
+from contextlib import closing
 from dataclasses import dataclass, field
-from socketserver import ThreadingMixIn
 from typing import Any
-from wsgiref.simple_server import WSGIRequestHandler, WSGIServer, make_server
 
 import psycopg
 from pika.exceptions import ChannelClosedByBroker
-from prometheus_client import CollectorRegistry, make_wsgi_app
+from prometheus_client import CollectorRegistry
 from prometheus_client.core import CounterMetricFamily, GaugeMetricFamily, Metric
 from prometheus_client.registry import Collector
 from wmbus_service.ending import Ending
 from wmbus_service.metrics import COUNTERS as OF_SESSIONS
+from wmbus_service.metrics import serve_figures
 from wmbus_service.trouble import Trouble
 
 from . import broker, store
@@ -31,8 +27,6 @@ from .view.door import FleetDoor
 log = logging.getLogger("wmbus")
 
 INTERVAL = 15.0
-# so long a connection has for all that is asked and answered over it, and so many are open at once
-SILENCE, MOST = 5.0, 32
 PREFIX = "wmbus_fleet_"
 # totals of all workers, over all starts
 COUNTERS = {name: words for name, words in OF_SESSIONS.items() if name != "lines"} | {
@@ -154,63 +148,13 @@ class Figures(Collector):
             yield gauge
 
 
-class Asked(WSGIRequestHandler):
-    """What is asked over a connection; nothing of it is logged."""
-
-    def handle(self) -> None:
-        """Reads, and answers."""
-        with suppress(OSError):
-            super().handle()
-
-    def log_message(self, format: str, *args: object) -> None:
-        """Nothing."""
-
-
-class Server(ThreadingMixIn, WSGIServer):
-    """Answers several at once. A connection whose time is over is cut off, whatever comes over it, and the oldest one where too many are
-    open: who asks for the metrics is done by then."""
-
-    daemon_threads = True
-
-    def __init__(self, address: tuple[str, int], handler: type[Asked]) -> None:
-        self.held: deque[tuple[float, socket.socket]] = deque()
-        super().__init__(address, handler)
-
-    def process_request(self, request: Any, client_address: Any) -> None:
-        """A connection, which a thread of its own answers."""
-        self.held.append((time.monotonic(), request))
-        if len(self.held) > MOST:
-            self._cut_off()
-        super().process_request(request, client_address)
-
-    def service_actions(self) -> None:
-        """Looks for those whose time is over, twice a second at least."""
-        while self.held and self.held[0][0] < time.monotonic() - SILENCE:
-            self._cut_off()
-
-    def _cut_off(self) -> None:
-        _, request = self.held.popleft()
-        # (most have long been answered, and are closed)
-        with suppress(OSError):
-            request.shutdown(socket.SHUT_RDWR)
-
-
-def serve(told: Metrics, registry: CollectorRegistry) -> None:
-    """Serves the metrics at an address of any family."""
-    class OfFamily(Server):
-        """A server of that family."""
-    OfFamily.address_family = socket.getaddrinfo(told.host, told.port, type=socket.SOCK_STREAM)[0][0]
-    server = make_server(told.host, told.port, make_wsgi_app(registry), OfFamily, Asked)
-    threading.Thread(target=server.serve_forever, daemon=True).start()
-
-
 def run(config: Config, ending: Ending) -> None:
     """Serves the metrics until the process is told to end."""
     told = config.metrics or Metrics()
     figures, registry = Figures(), CollectorRegistry()
     registry.register(figures)
     try:
-        serve(told, registry)
+        serve_figures(told, registry)
     except (OSError, OverflowError, UnicodeError) as fault:
         raise Trouble(f"metrics.host {told.host} and metrics.port {told.port}", f"the metrics can't be served: {fault}",
                       "name another host or port, or end what uses this one") from None
