@@ -9,7 +9,7 @@ use crate::known::KnownMeter;
 use crate::passing::PassingSlot;
 use crate::reading::Reading;
 use crate::standing::Served;
-use crate::start::{MeterStart, addresses_of};
+use crate::start::{MeterStart, directory_of};
 use meter_address::Address;
 use outer_io::Memory;
 use std::alloc::Global;
@@ -140,10 +140,9 @@ impl PassingWorld {
         requires few { length starts.items < 2 ^ 32 }
         ensures { IfOk result (λ world. ArePassing (map (fresh_slot own) starts.items) world) }
     {
-        let addresses = addresses_of(alloc, starts.as_slice())?;
         Ok(PassingWorld {
+            directory: directory_of(alloc, starts.as_slice())?,
             meters: fresh_meters(alloc, own, starts)?,
-            directory: Directory::new(alloc, addresses.as_slice())?,
         })
     }
 

@@ -1,9 +1,10 @@
 //! What the entries of a slot come to, and what an event is answered by it.
-ghost use Rattle.std.specs.Prelude.{◌≡◌, ◌++◌, ℕ, List, [], length, option_to_list, ◌≤◌, IfOk, OnErr};
+ghost use Rattle.std.specs.Prelude.{◌≡◌, ◌++◌, ℕ, List, [], length, option_to_list, ◌≤◌, IfOk, OnErr, vec_capacity};
 ghost use Rattle.smallvec.specs.SmallVec.{HasRoomFor};
 ghost use Rattle.afl_fragments.specs.Held.{held_bytes};
 ghost use Rattle.meter_slots.specs.Journal.{reading_at, stored_in};
-ghost use Rattle.meter_slots.specs.Keeping.{held_by, verdict_as, room_for, VerdictHasRoom};
+ghost use Rattle.meter_slots.specs.Sending.{IsRoom};
+ghost use Rattle.meter_slots.specs.Keeping.{held_by, verdict_as, room_for, Admits, VerdictHasRoom};
 
 use crate::commands::Commands;
 use crate::entry::{Event, Outcome};
@@ -84,6 +85,41 @@ fn take_buffer(alloc: Global, kept: &mut Option<Box<Scratch>>) -> Result<Box<Scr
         Some(buffer) => Ok(buffer),
         None => Ok(Box::new(alloc, Scratch::new())?),
     }
+}
+
+// What hearing a telegram takes memory for.
+#[derive(Drop)]
+struct Rooms {
+    // Room for the payload of what is stored.
+    payload: Room,
+    // The buffer in which messages are opened.
+    message: Box<Scratch>,
+    // Room for a downlink.
+    downlink: Vec<Downlink>,
+}
+
+// Takes all of it, and a place for the telegram's fragment, where it has one.
+fn take_rooms(
+    alloc: Global,
+    parts: &mut Fragments,
+    message: &mut Option<Box<Scratch>>,
+    downlink: &mut Vec<Downlink>,
+    telegram: &Telegram,
+    layers: &Result<Layers, Reason>,
+) -> Result<Rooms, Memory>
+    requires within { IfOk layers.now (λ l. l.body ≤ length telegram.now) }
+    ensures held { held_by parts.new ≡ held_by parts.old }
+    ensures place { IfOk result (λ _. IfOk layers.now (λ l. Admits l.afl parts.new)) }
+    ensures empty { IfOk result (λ rooms. rooms.payload.items ≡ []) }
+    ensures payload { IfOk result (λ rooms. room_for layers.now (held_by parts.new) telegram.now ≤ rooms.payload.capacity) }
+    ensures downlink { IfOk result (λ rooms. IsRoom rooms.downlink.items (vec_capacity rooms.downlink)) }
+{
+    take_place(alloc, parts, layers)?;
+    Ok(Rooms {
+        payload: Room::with_capacity(alloc, room_needed(parts, telegram, layers))?,
+        message: take_buffer(alloc, message)?,
+        downlink: take_room(alloc, downlink)?,
+    })
 }
 
 // The bytes, in room that was taken before.
@@ -251,10 +287,19 @@ impl Standing {
     {
         let mode = self.judge.mode();
         let layers = receive(mode, telegram);
-        take_place(alloc, &mut self.parts, &layers)?;
-        let room = Room::with_capacity(alloc, room_needed(&self.parts, telegram, &layers))?;
-        let mut message = take_buffer(alloc, &mut self.message)?;
-        let mut sent = take_room(alloc, &mut self.room)?;
+        let rooms = take_rooms(
+            alloc,
+            &mut self.parts,
+            &mut self.message,
+            &mut self.room,
+            telegram,
+            &layers,
+        )?;
+        let Rooms {
+            payload,
+            mut message,
+            mut downlink,
+        } = rooms;
         let judged = hear(&self.judge, &mut self.parts, telegram, layers, &mut message);
         let response = has_response_control(telegram.control());
         let outcome = self.commands.hear(
@@ -263,13 +308,13 @@ impl Standing {
             self.judge.commission(),
             &judged,
             response,
-            &mut sent,
+            &mut downlink,
         );
         self.judge.count(&outcome);
-        let reading = reading_from(at, room, &judged.verdict, &message);
+        let reading = reading_from(at, payload, &judged.verdict, &message);
         self.heard.learn(mode, telegram, &layers, &judged.verdict);
         self.message = Some(message);
-        self.room = sent;
+        self.room = downlink;
         Ok(Served { outcome, reading })
     }
 

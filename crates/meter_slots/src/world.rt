@@ -7,7 +7,7 @@ ghost use Rattle.meter_slots.specs.World.{fresh_slot, outcome_at, stepped_slot};
 use crate::book::SlotBook;
 use crate::directory::Directory;
 use crate::entry::Outcome;
-use crate::start::{MeterStart, addresses_of};
+use crate::start::{MeterStart, directory_of};
 use crate::step::{Landed, Step};
 use meter_address::Address;
 use outer_io::Memory;
@@ -68,16 +68,14 @@ impl World {
     ghost use Rattle.meter_slots.specs.World.{world_of, Lands, has_slot, after_step, AnsweredBy};
 
     /// A slot for each meter of which this is known, in their order. Their addresses differ.
-    #[tactic(auto, using(crate::proofs::Worlds::ordered_fresh, crate::proofs::Worlds::world_fresh))]
     pub fn new(alloc: Global, own: Address, starts: Vec<MeterStart>) -> Result<World, Memory>
         requires apart { AreApart (map (λ c. c.address) starts.items) }
         requires few { length starts.items < 2 ^ 32 }
         ensures { IfOk result (λ world. world ≡ world_of own starts.items []) }
     {
-        let addresses = addresses_of(alloc, starts.as_slice())?;
         Ok(World {
+            directory: directory_of(alloc, starts.as_slice())?,
             slots: fresh_slots(alloc, own, starts)?,
-            directory: Directory::new(alloc, addresses.as_slice())?,
             strangers: Strangers::new(alloc)?,
         })
     }

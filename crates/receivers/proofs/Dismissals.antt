@@ -1,6 +1,6 @@
 -- The passes of one more receiver are joined, the last one's that is left.
-use Rattle.std.proofs.Common.{◌≡◌, List, [], ◌∷◌, ◌++◌, map, slice_index_or, refl, sym, ap, ◌∙◌, subst, arith, append-nil, append_assoc}
-use Rattle.std.proofs.lemmas.List.{map-append}
+use Rattle.std.proofs.Common.{◌≡◌, List, [], ◌∷◌, ◌++◌, map, length, slice_index_or, refl, sym, ap, ◌∙◌, subst, arith, append-nil, append_assoc}
+use Rattle.std.proofs.lemmas.List.{map-append, nil_from_length}
 use Rattle.meter_address.specs.declared.address.Address.{Address}
 use Rattle.meter_slots.specs.declared.entry.Event.{Event}
 use Rattle.meter_slots.specs.declared.entry.Outcome.{Outcome}
@@ -77,3 +77,6 @@ pub back_more : {W X : Type 0} (f : W → X) (ws ws' : List W) (w : W) (old new 
     → map f ws ++ old ≡ all → map f ws' ++ new ≡ all
 back_more f ws ws' w old new all e new_is h = ap (λ l. map f ws' ++ l) new_is
     ∙ (sym (append_assoc (map f ws') (f w ∷ []) old) ∙ (ap (λ l. l ++ old) (sym (map_last f ws ws' w e)) ∙ h))
+
+pub map_none : {W X : Type 0} (f : W → X) (ws : List W) → length ws ≡ 0 → map f ws ≡ []
+map_none f ws none = ap (map f) (nil_from_length ws none)

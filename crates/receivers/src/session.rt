@@ -112,6 +112,16 @@ fn make_strangers(alloc: Global) -> Result<(StrangerCell, Pass<Strangers>), Memo
     enclose(alloc, Strangers::new(alloc)?)
 }
 
+// Where each meter's slot stands.
+fn directory_of(alloc: Global, starts: &[MeterStart]) -> Result<Directory, Memory>
+    requires apart { AreApart (map address_of starts.now) }
+    requires few { length starts.now < 2 ^ 32 }
+    ensures { IfOk result (λ directory. directory ≡ map address_of starts.now) }
+{
+    let addresses = addresses_of(alloc, starts)?;
+    Directory::new(alloc, addresses.as_slice())
+}
+
 /// Has all receivers work over slots of meters of which this is known, each in a thread of its own where one can be made.
 pub fn collect<R: Threads + Wait + Sync, S: Source + Send + Drop, K: Sink + Send + Drop>(
     rt: &R,
@@ -129,8 +139,7 @@ pub fn collect<R: Threads + Wait + Sync, S: Source + Send + Drop, K: Sink + Send
         (record { slots = c.slots.items; strangers = c.strangers })) }
     ensures as_many { OnOk result (length receivers.new.items ≡ length receivers.old.items) }
 {
-    let addresses = addresses_of(alloc, starts.as_slice())?;
-    let directory = Directory::new(alloc, addresses.as_slice())?;
+    let directory = directory_of(alloc, starts.as_slice())?;
     let begun = Snapshot::of(&starts);
     let fresh = make_cells(alloc, own, starts)?;
     let (strangers, stranger_root) = make_strangers(alloc)?;

@@ -1,6 +1,7 @@
-use Rattle.std.proofs.Common.{refl, ◌∙◌}
+use Rattle.std.proofs.Common.{ℕ, ◌+◌, ◌++◌, refl, sym, ap, ◌∙◌}
 use Rattle.receivers.specs.Passes.{crew}
-use Rattle.receivers.proofs.Dismissals.{none_gone, one_gone, can_join_last, map_last, back_more}
+use Rattle.receivers.proofs.Dismissals.{none_gone, one_gone, all_gone, can_join_last, map_last, map_none, back_more}
+use Rattle.receivers.proofs.Joinings.{one_less}
 use Rattle.receivers.proofs.crews.dismiss.Goals as goal
 
 pub loop-worker-init : goal.loop-worker-init
@@ -32,3 +33,20 @@ loop-worker-preserved g c = let e = c.join.ensures in let inv = c.loop-worker.in
           (map_last (λ w. crew w.passes.items w.stranger_pass) _ _ _ popped) inv.gone c.join_each.ensures.joined e;
       back = back_more (λ w. w.receiver) _ _ c.in-Some.worker _ _ _ popped c.in_ok-insert.ensures.items inv.back;
     }
+
+pub loop-worker-smaller : goal.loop-worker-smaller
+loop-worker-smaller g c =
+    one_less (sym c.loop-worker.workers.ok.0 ∙ (sym c.in-Some.ensures.cases ∙ ap (λ (k : ℕ). k + 1) c.pop.new.self.ok.0))
+
+pub returns-clause-roots : goal.returns-clause-roots
+returns-clause-roots g c = (c.loop-worker.invariant.roots, c.loop-worker.invariant.stranger)
+
+pub returns-clause-joined : goal.returns-clause-joined
+returns-clause-joined g c =
+    all_gone _ _ _ _ _ _ (map_none (λ w. crew w.passes.items w.stranger_pass) c.loop-worker.workers.items
+    (sym c.loop-worker.workers.ok.0 ∙ c.in_default.ensures.cases.0)) c.loop-worker.invariant.gone
+
+pub returns-clause-receivers : goal.returns-clause-receivers
+returns-clause-receivers g c =
+    let none = map_none (λ w. w.receiver) c.loop-worker.workers.items (sym c.loop-worker.workers.ok.0 ∙ c.in_default.ensures.cases.0) in
+    sym (ap (λ l. l ++ c.loop-worker.receivers.items) none) ∙ c.loop-worker.invariant.back

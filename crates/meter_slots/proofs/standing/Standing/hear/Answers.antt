@@ -7,7 +7,7 @@ use Rattle.message_check.specs.Opening.{Found}
 use Rattle.message_check.specs.declared.refusal.Reason.{Reason}
 use Rattle.meter_slots.specs.Hearing.{is_response, received}
 use Rattle.meter_slots.specs.Journal.{verdict, access_of, heard, orders_heard, reading_at, stored_in}
-use Rattle.meter_slots.specs.Keeping.{Bar, Brings, Kept, held_by, standing_for, verdict_as}
+use Rattle.meter_slots.specs.Keeping.{Bar, Brings, Kept, held_by, last_after, standing_for, verdict_as}
 use Rattle.meter_slots.proofs.standing.Standing.hear.Goals as goal
 
 pub returns-clause-outcome : goal.returns-clause-outcome
@@ -26,11 +26,11 @@ returns-clause-outcome c format told =
     c.commission.ensures
     ∙ ap (λ (a : Access). heard own b.judge.commission b.commands a c.has_response_control-response.result found)
     (c.hear-judged.ensures.access ∙ ap (access_of (received b.judge.commission.mode t))
-    (c.hear-judged.ensures.verdict told (c.take_place.ensures.held ∙ stands)))
+    (c.hear-judged.ensures.verdict told (c.take_rooms.ensures.held ∙ stands)))
     ∙ ap (λ (r : Bool). heard own b.judge.commission b.commands (access k) r found)
     (c.has_response_control-response.ensures ∙ ap is_response c.control.ensures)
     ∙ ap (λ (v : Result (Option Found) Reason). heard own b.judge.commission b.commands (access k) response v)
-    (c.hear-judged.ensures.verdict told (c.take_place.ensures.held ∙ stands)) in
+    (c.hear-judged.ensures.verdict told (c.take_rooms.ensures.held ∙ stands)) in
     subst Answered c.self.view_is answered
 
 pub returns-clause-reading : goal.returns-clause-reading
@@ -43,7 +43,7 @@ returns-clause-reading c format told =
     let reads : Reads k = λ stands. c.reading_from-reading.ensures
     ∙ ap (λ (bytes : List ℕ). reading_at c.args.at (stored_in (verdict_as bytes c.hear-judged.result.verdict))) c.deref.ensures
     ∙ ap (λ (v : Result (Option Found) Reason). reading_at c.args.at (stored_in v))
-    (c.hear-judged.ensures.verdict told (c.take_place.ensures.held ∙ stands)) in
+    (c.hear-judged.ensures.verdict told (c.take_rooms.ensures.held ∙ stands)) in
     subst Reads c.self.view_is reads
 
 pub returns-clause-orders : goal.returns-clause-orders
@@ -58,7 +58,7 @@ returns-clause-orders c format told =
     let moved : Moved k = λ stands. c.hear-outcome.ensures.after
     ∙ ap (λ (a : Access). orders_heard b.commands a c.has_response_control-response.result given)
     (c.hear-judged.ensures.access ∙ ap (access_of (received b.judge.commission.mode t))
-    (c.hear-judged.ensures.verdict told (c.take_place.ensures.held ∙ stands)))
+    (c.hear-judged.ensures.verdict told (c.take_rooms.ensures.held ∙ stands)))
     ∙ ap (λ (response : Bool). orders_heard b.commands (access k) response given)
     (c.has_response_control-response.ensures ∙ ap is_response c.control.ensures) in
     subst Moved c.self.view_is moved
@@ -71,3 +71,22 @@ invariant_of-self-2 c x is =
     c.learn.ensures b.judge c.hear-judged.new.message (sym c.mode-mode.ensures) c.receive-layers.ensures.exact c.hear-judged.ensures.whole
     c.self.invariant x is in
     subst (λ (k : Commissioned). Brings k x) (sym same) known
+
+pub hear-judged-requires-clause-room : goal.hear-judged-requires-clause-room
+hear-judged-requires-clause-room c = c.in_ok-rooms.ensures.place
+
+pub hear-outcome-requires : goal.hear-outcome-requires
+hear-outcome-requires c = c.in_ok-rooms.ensures.downlink
+
+pub reading_from-reading-requires-clause-empty : goal.reading_from-reading-requires-clause-empty
+reading_from-reading-requires-clause-empty c = c.in_ok-rooms.ensures.empty
+
+pub invariant_of-self : goal.invariant_of-self
+invariant_of-self c = c.self.invariant
+
+pub returns-clause-commission : goal.returns-clause-commission
+returns-clause-commission c = ap (λ (w : Bar). w.commission) c.count.ensures ∙ ap (λ (k : Kept). k.commission) c.self.view_is
+
+pub returns-clause-last : goal.returns-clause-last
+returns-clause-last c = ap (λ (w : Bar). w.last) c.count.ensures
+    ∙ ap (λ (k : Kept). last_after k.last c.hear-outcome.result) c.self.view_is
