@@ -2,6 +2,7 @@ pub mod Counted
 pub mod Events
 pub mod Known
 pub mod Meters
+pub mod Told
 pub mod Lines
 pub mod EndPieces
 pub mod Ends

@@ -23,7 +23,8 @@ use Rattle.receivers.proofs.Numbers.{are_few, counted}
 use Rattle.state_file.specs.Whole.{Known}
 use Rattle.step_text.specs.declared.said.Said.{Said}
 use Rattle.step_text.specs.declared.said.Said.TheVariants as said
-use Rattle.step_text.specs.Said.{said_of, told_in, SaidIsTold}
+use Rattle.step_text.specs.Said.{said_of}
+use Rattle.steps_main.specs.Told.{told_in, SaidIsTold}
 use Rattle.steps_main.specs.declared.telling.Stepper.{Stepper}
 use Rattle.steps_main.specs.Steps.{said_told, line_told, lines_told}
 use Rattle.steps_main.specs.Telling.{TellsSaid, TellsLine}

@@ -1,25 +1,18 @@
 -- A run by how its lines ended, and by what became of the texts behind them.
-use Rattle.std.proofs.Common.{◌≡◌, ◌≤◌, ◌⊎◌, ℕ, Bool, true, false, List, [], ◌++◌, map, Result, Ok, Err, refl, sym, ap, ◌∙◌, subst, inl, inr}
+use Rattle.std.proofs.Common.{◌≡◌, ◌≤◌, ◌⊎◌, ℕ, Bool, true, false, List, [], ◌++◌, map, Ok, Err, refl, sym, ap, ◌∙◌, subst, inl, inr}
 use Rattle.std.specs.Prelude.{IsTrue}
 use Rattle.outer_io.specs.Bytes.{AppendsFront}
 use Rattle.outer_io.specs.Faults.{Rose}
 use Rattle.outer_io.specs.Shown.{Change, SinkShown, ReadFailed, LosesNothing, IsReadOut, IsSilent}
 use Rattle.outer_io.proofs.Fronts.{behind, both, first}
-use Rattle.frame_formats.specs.declared.fault.FrameFault.{FrameFault}
-use Rattle.line_reader.specs.declared.line.BadLine.{BadLine}
-use Rattle.line_reader.specs.declared.line.Line.{Line}
-use Rattle.line_reader.specs.Grammar.{line_of}
 use Rattle.line_reader.specs.Lines.{is_over}
 use Rattle.line_teller.specs.declared.ending.LinesEnd.{LinesEnd}
 use Rattle.line_teller.specs.declared.ending.LinesEnd.TheVariants as ends
 use Rattle.line_teller.specs.Ending.{Ended, EndsLines, EndsText, is_whole}
 use Rattle.meter_address.specs.declared.address.Address.{Address}
-use Rattle.meter_slots.specs.declared.entry.Event.{Event}
 use Rattle.meter_slots.specs.Journal.{Start}
-use Rattle.meter_slots.specs.Telling.{event_of_line}
 use Rattle.meter_slots.proofs.PassingWorlds.{passing_is_known}
 use Rattle.receivers.specs.Alone.{steps_among}
-use Rattle.receivers.specs.Told.{told_by_event, told_by_reading, told_of}
 use Rattle.receivers.proofs.Numbers.{counted_none, rose_since}
 use Rattle.receivers.proofs.OneSession.{session_alone}
 use Rattle.state_file.specs.Rooms.{HasRoom}
@@ -27,7 +20,6 @@ use Rattle.state_file.specs.Whole.{Known, state_of}
 use Rattle.state_file.specs.declared.fault.StateFault.{StateFault}
 use Rattle.state_file.specs.declared.fault.StateFault.TheVariants as faults
 use Rattle.state_file.specs.Written.{state_text}
-use Rattle.step_text.specs.Said.{said_by_event, said_by_reading, said_of, told_in, SaidIsTold}
 use Rattle.steps_main.specs.declared.status.StepsStatus.{StepsStatus}
 use Rattle.steps_main.specs.declared.status.StepsStatus.TheVariants as statuses
 use Rattle.steps_main.specs.declared.telling.Stepper.{Stepper}
@@ -39,20 +31,7 @@ use Rattle.steps_main.specs.Steps.{Heard, tellings, lines_told, end_told, next_k
 use Rattle.steps_main.specs.Telling.{IsFresh, TellsLine}
 use Rattle.steps_main.proofs.Ends.{left_is, end_is, room_behind}
 use Rattle.steps_main.proofs.Lines.{StandsBehind, AreSo, lines_so}
-
--- ---- what a line says is what it tells
-
-by_event : (event : Result (Address × Event) FrameFault) → told_in (said_by_event event) ≡ told_by_event event
-by_event (Ok (address, event)) = refl
-by_event (Err fault) = refl
-
-by_reading : (line : Result Line BadLine) → told_in (said_by_reading line) ≡ told_by_reading line
-by_reading (Ok line) = by_event (event_of_line line)
-by_reading (Err bad) = refl
-
-saying : SaidIsTold
-unfolding said_of told_of
-saying text = by_reading (line_of text)
+use Rattle.steps_main.proofs.Told.{said_is_told}
 
 -- ---- a run that ends before a line is read
 
@@ -192,7 +171,7 @@ module _ (run : Run) (state : Known) (own : Address) (starts : List Start) (firs
     heard = record { known = known; lines = (ended tells).lines; end = end }
 
     so : AreSo known [] 1 (ended tells).lines (ended tells).text (ended tells).last
-    so = lines_so known room.apart saying 1 [] refl first_teller (ended tells).last (ended tells).lines (ended tells).text (ended tells).note
+    so = lines_so known room.apart said_is_told 1 [] refl first_teller (ended tells).last (ended tells).lines (ended tells).text (ended tells).note
         stands_first (ended tells).told
 
     stands : IsTrue (is_whole end) → StandsBehind known (tellings heard) now

@@ -9,6 +9,7 @@ pub fn own_lines_alone()
 {}
 
 /// What a line says is what it tells a collector, with its cause where it says nothing.
+#[tactic(auto, using(crate::proofs::Told::said_is_told))]
 pub fn said_is_told()
     ensures { SaidIsTold }
 {}
