@@ -13,8 +13,8 @@ from libraries import TOP, below, known_crates, toolchain
 PARTS = ("src", "specs", "proofs")
 
 # A function of a source file: what it is called by there, the words of which rattle makes its name, where its text, its body and its end
-# are, and the cycle that it is of.
-Function = namedtuple("Function", "key words start body end cycle")
+# are, the cycle that it is of, and whether other crates can call it.
+Function = namedtuple("Function", "key words start body end cycle public")
 
 # what is no code: comments, texts and characters
 BLANKED = re.compile(r'//[^\n]*|/\*.*?\*/|b?r(#*)".*?"\1|b?"(?:\\.|[^"\\])*"|(?<![A-Za-z0-9_])b?\'(?:\\[^\n\']*|[^\\\'\n])\'', re.S)
@@ -22,6 +22,13 @@ BLANKED = re.compile(r'//[^\n]*|/\*.*?\*/|b?r(#*)".*?"\1|b?"(?:\\.|[^"\\])*"|(?<
 CLAUSE = re.compile(r"\b(requires|ensures|ghost)\b[^{};]*$")
 TOKEN = re.compile(r"\bfn\s+(\w+)|\bimpl\b|\b(?:mod|trait)\s+(\w+)|[{}]")
 CYCLE = re.compile(r"#\[cycle\((\w+)\)\]")
+PUBLIC = re.compile(r"\bpub\b(?!\()")
+# what no other crate sees: what names stand for, how a function is proved, and how a value is kept
+INSIDE = re.compile(r"^ *use [^;]*;|#\[tactic\(.*?\)\]", re.M | re.S)
+KEPT = re.compile(r"\bghost (?:view|coded|invariant) = (?=\{)")
+NAMED = re.compile(r"\bghost use ([^;{]*)\{([^};]*)\};")
+STRUCT = re.compile(r"(\bstruct \w+[^{};()]*\{\n)([^}]*)\}")
+FIELD = re.compile(r"^(?=    (?:pub\b|\w+:))", re.M)
 
 
 def read(path):
@@ -90,50 +97,75 @@ def functions(path, text):
     """The functions of a source file that stand in no function, in their order."""
     text = BLANKED.sub(lambda it: re.sub(r"[^\n]", " ", it[0]), text)
     module = path.removeprefix("src/").removesuffix(".rt").removesuffix("/mod").split("/")
-    around, found, at, opening = [[] if module in (["lib"], ["main"]) else module], [], 0, None
+    # (for each brace around a place the words of the names around it, and whether it is a trait's or that of an impl of one)
+    around, found, at, opening = [([] if module in (["lib"], ["main"]) else module, False)], [], 0, None
     while it := TOKEN.search(text, at):
         at = it.end()
         if it[0] == "{":
             around.append(opening)
             opening = None
-        elif it[0] == "}":
-            around.pop()
-        elif around[-1] is None:
             continue
-        elif it[1]:
+        if it[0] == "}":
+            around.pop()
+            continue
+        if around[-1] is None:
+            continue
+        words, of_trait = around[-1]
+        if it[1]:
             body, end = body_of(text, at)
             # (rattle's notes name the line at which a function's attributes begin)
             head = text[max(text.rfind(mark, 0, it.start()) for mark in "{};") + 1:it.start()]
             start = it.start() - len(head.lstrip())
             cycle = CYCLE.search(head)
-            words = [*around[-1], it[1]]
-            found.append(Function("::".join(words), words, start, body, end, cycle and cycle[1]))
+            words = [*words, it[1]]
+            found.append(Function("::".join(words), words, start, body, end, cycle and cycle[1], of_trait or bool(PUBLIC.search(head))))
             at = end
         elif it[2]:
-            opening = [*around[-1], it[2]] if text[at:].lstrip()[:1] != ";" else None
+            opening = ([*words, it[2]], it[0].startswith("trait")) if text[at:].lstrip()[:1] != ";" else None
         else:
             brace = text.index("{", at)
-            opening = [*around[-1], "@" + impl_word(text[at:brace])]
+            opening = ([*words, "@" + impl_word(text[at:brace])], " for " in text[at:brace])
             at = brace
     return found
 
 
+def named(text):
+    """A source's text in which each `ghost use` brings in those names alone that its block says."""
+    made, at = [], 0
+    for it in NAMED.finditer(text):
+        depth, end = 1, it.end()
+        while depth and end < len(text):
+            depth += {"{": 1, "}": -1}.get(text[end], 0)
+            end += 1
+        block = NAMED.sub("", text[it.end():end])
+        said = [name for name in it[2].split(", ") if re.search(r"(?<!\w)" + re.escape(name.split(" as ")[-1].strip("◌")) + r"(?!\w)", block)]
+        made.append(text[at:it.start()] + (f"ghost use {it[1]}{{{', '.join(said)}}};" if said else ""))
+        at = it.end()
+    return "".join(made) + text[at:]
+
+
 def stated(path, text):
-    """A source file without the bodies of its functions: what the crates above can see of it."""
+    """What the crates above can see of a source file: without the bodies of its functions, without those that they can't call, and without
+    the fields that they can't name, comments, and what names stand for."""
     kept, at = [], 0
     for function in functions(path, text):
-        kept.append(text[at:function.body])
+        kept.append(text[at:function.body if function.public else function.start])
         at = function.end
-    return "".join([*kept, text[at:]])
+    said = "".join([*kept, text[at:]])
+    said = BLANKED.sub(lambda it: "" if it[0].startswith(("//", "/*")) else it[0], said)
+    said = STRUCT.sub(lambda it: it[1] + "".join(field for field in FIELD.split(it[2]) if PUBLIC.match(field.lstrip())) + "}", said)
+    while it := KEPT.search(said):
+        said = said[:it.start()] + said[closing(said, it.end()):].removeprefix(";")
+    return re.sub(r"\s+", " ", named(INSIDE.sub("", said)))
 
 
 @functools.cache
 def sum_of_statements(crate):
-    """A sum of what the crates above a crate see of it and can be held to: its definitions, and its sources without bodies."""
+    """A sum of what the crates above a crate see of it and can be held to: its definitions, and what its sources state."""
     folder, total = f"{TOP}/crates/{crate}", hashlib.sha256()
     for path in files_below(f"{folder}/src"):
         inside = os.path.relpath(path, folder)
-        total.update(f"{inside}\n{stated(inside, read(path))}".encode())
+        total.update(f"{inside}\n{stated(inside, read(path))}\n".encode())
     for path in files_below(f"{folder}/specs"):
         total.update(f"{os.path.relpath(path, folder)}\n{read(path)}".encode())
     return total.hexdigest()
