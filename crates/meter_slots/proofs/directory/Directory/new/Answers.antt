@@ -1,7 +1,14 @@
-use Rattle.meter_slots.proofs.Places.{next_key}
+use Rattle.meter_slots.proofs.Places.{one_more, all_placed}
 use Rattle.meter_slots.proofs.directory.Directory.new.Goals as goal
 
-pub loop-address-preserved : goal.loop-address-preserved
-loop-address-preserved c =
-    next_key c.args.addresses.now c.loop-address.places.keys c.insert.new.self.keys c.loop-address.address-index (record { 0 = 0 })
-    c.requires.apart c.loop-address-test.true c.loop-address.invariant c.in_ok-insert.ensures.keys
+pub loop-place-preserved : goal.loop-place-preserved
+loop-place-preserved c =
+    let l = c.loop-place in
+    one_more c.args.addresses.now l.place (record { 0 = 0 }) l.places.entries c.insert.new.self.entries c.requires.apart
+    c.loop-place-test.true l.invariant c.in_ok-insert.ensures.updates.0
+
+pub invariant_of-result : goal.invariant_of-result
+invariant_of-result c =
+    let l = c.loop-place in
+    rw (c.in_ok-to_vec.ensures.items_if_clones_equal (λ _ _ same. same))
+    (all_placed c.args.addresses.now l.place l.places.entries c.loop-place-test.false l.invariant)

@@ -1,5 +1,6 @@
-use Rattle.std.proofs.Common.{◌≡◌, take}
+use Rattle.std.proofs.Common.{take}
+use Rattle.meter_slots.proofs.Places.{ArePlaces}
 use Rattle.meter_slots.proofs.directory.Directory.new.Given as goal
 
-abbrev pub invariant-loop-address : goal.invariant-loop-address
-invariant-loop-address l = l.places.keys ≡ take l.address-index l.addresses
+abbrev pub invariant-loop-place : goal.invariant-loop-place
+invariant-loop-place l = ArePlaces (take l.place l.addresses) l.places.entries
