@@ -1,5 +1,5 @@
 -- The bytes of a line while its end is sought.
-use Rattle.std.proofs.Common.{◌≡◌, ℕ, ◌<◌, ◌≤◌, ◌+◌, ◌-◌, List, [], ◌++◌, length, take, drop, refl, ap, sym, subst, ◌∙◌, arith, append_assoc}
+use Rattle.std.proofs.Common.{◌≡◌, ℕ, ◌<◌, ◌≤◌, ◌+◌, ◌-◌, List, [], ◌∷◌, ◌++◌, length, take, drop, refl, ap, sym, subst, ◌∙◌, arith, append_assoc}
 use Rattle.std.proofs.lemmas.List.{append-nil, nil_from_length, take-append-drop, take-append-le, drop-append-le, drop-drop, take_all, length-take, length-drop, length-append}
 use lib.Seq.{take-append-add}
 use Rattle.outer_io.specs.Bytes.{Moves}
@@ -28,6 +28,12 @@ length-line {line} {given_up} part =
     let within = part.within in
     let rest = ap length part.rest ∙ length-drop given_up line in
     omega arith
+
+pub line_within : {bytes : List ℕ} {count : ℕ} → BeginsWithLine bytes count → (0 < count) × (count ≤ length bytes)
+line_within found =
+    let long = found.long in
+    let whole = ap length found.cut ∙ length-append found.front (10 ∷ found.rest) in
+    (omega arith, omega arith)
 
 pub found_line : {longest : ℕ} {line held : List ℕ} {given_up count : ℕ} → IsSearched longest line held given_up → BeginsWithLine held count
     → BeginsWithLine line (given_up + count)

@@ -3,7 +3,7 @@ use Rattle.std.proofs.Common.{◌≡◌, ℕ, ◌+◌, ◌<◌, ◌≤◌, List,
 use Rattle.std.specs.List.{flat_map}
 use Rattle.std.proofs.Math.Seq.{drop-append-add}
 use Rattle.std.proofs.lemmas.Grind.{flat_map-append}
-use Rattle.std.proofs.lemmas.List.{append-nil, length-append, drop-append-le, take-append-le, take-append-drop, drop_all, drop_more, take_more}
+use Rattle.std.proofs.lemmas.List.{append-nil, length-append, drop-append-le, take-append-le, take-append-drop, drop_all, drop_more, flat_map_more, take_more}
 use Rattle.outer_io.specs.Bytes.{Moves}
 use Rattle.outer_io.proofs.Parts.{moves}
 use Rattle.made_input.specs.Streams.{Text, bytes_at, IsPlace, place_in_all}
@@ -28,6 +28,13 @@ module _ {P : Type 0} (bytes : P → List ℕ) (pieces : List P) where
   bytes_of_piece piece d within is =
       ap (λ ps. flat_map bytes (take 1 ps)) (drop_more pieces piece d within)
       ∙ append-nil (bytes (get_or pieces piece d)) ∙ ap bytes (sym is)
+
+  -- one more piece behind those so far
+  pub one_piece : (place : ℕ) (piece : P) {before after : List ℕ} → place < length pieces → piece ≡ get_or pieces place piece
+      → before ≡ flat_map bytes (take place pieces) → after ≡ before ++ bytes piece → after ≡ flat_map bytes (take (place + 1) pieces)
+  one_piece place piece within is so_far now =
+      now ∙ ap (λ b. b ++ bytes piece) so_far ∙ flat_map_more bytes [] (take place pieces) piece
+      ∙ ap (λ p. flat_map bytes (take place pieces ++ p ∷ [])) is ∙ ap (flat_map bytes) (sym (take_more pieces place piece within))
 
   -- where a piece is at its end, the next one begins
   pub turned : (piece at start : ℕ) (d : P) → piece < length pieces → d ≡ get_or pieces piece d → at ≡ length (bytes d)

@@ -1,10 +1,10 @@
 -- The line behind each look at the bytes and behind each read: the invariant of the loop, and what was found where it ends.
 use Rattle.std.proofs.Common.{◌≡◌, ◌≤◌, ◌+◌, ◌-◌, ◌∙◌, ◌++◌, ap, length, take, arith, IsTrue}
-use Rattle.std.proofs.lemmas.List.{append-nil}
+use Rattle.std.proofs.lemmas.List.{append-nil, length-drop}
 use Rattle.line_reader.specs.Newlines.{newlines}
 use Rattle.line_reader.specs.Reading.{BeginsWithLine}
 use Rattle.line_reader.specs.Search.{IsRestOfLine}
-use Rattle.line_reader.proofs.SearchLemmas.{alone_after, ends, faults, found_line, held_more, nothing_came, past_limit, read_on, ready}
+use Rattle.line_reader.proofs.SearchLemmas.{alone_after, ends, faults, found_line, held_more, line_within, nothing_came, past_limit, read_on, ready}
 use Rattle.line_reader.proofs.search.find_end.Goals as goal
 use Rattle.line_reader.proofs.search.find_end.Goals.{After-give_up-given_up}
 
@@ -19,6 +19,21 @@ before : (g : _) (c : After-give_up-given_up g) (told : IsTrue g.S.Source.tells)
 before g c told =
     ready (c.reading.invariant.line told).line c.reading.invariant.given_up (no_newline g c) (omega arith) c.give_up-given_up.ensures.rest
     c.give_up-given_up.ensures.within c.give_up-given_up.ensures.long
+
+-- giving bytes up changes nothing of how many there are
+as_many : (g : _) (c : After-give_up-given_up g)
+    → c.reading.given_up + c.give_up-given_up.result + length c.give_up-given_up.new.held ≡ c.reading.given_up + length c.reading.held
+as_many g c =
+    let within = c.give_up-given_up.ensures.within in
+    let rest = ap length c.give_up-given_up.ensures.rest ∙ length-drop c.give_up-given_up.result c.reading.held in
+    omega arith
+
+pub returns-in-Some-clause-fits : goal.returns-in-Some-clause-fits
+returns-in-Some-clause-fits g c =
+    let found = line_within c.in-Some.ensures.1 in
+    let within = c.in-Some.ensures.0 in
+    let held = ap length c.bytes.ensures.bytes in
+    (omega arith, omega arith, omega arith)
 
 pub returns-in-Some-clause-searches : goal.returns-in-Some-clause-searches
 returns-in-Some-clause-searches g c = λ told.
@@ -39,6 +54,12 @@ returns-then-len-most-clause-searches g c = λ told.
       moves = state.moves;
       finds = past_limit state.line c.reading.invariant.given_up none (omega arith);
     }
+
+pub at_end-requires : goal.at_end-requires
+at_end-requires g c =
+    let many = as_many g (goal.at.at_end-requires g c).After-give_up-given_up in
+    let count = c.in-Ok-eq0.ensures.count in
+    omega arith
 
 pub returns-in-Ok-eq0-clause-searches : goal.returns-in-Ok-eq0-clause-searches
 returns-in-Ok-eq0-clause-searches g c = λ told.
@@ -68,6 +89,12 @@ reading-preserved g c =
           read_on (c.reading.invariant.line told) line.0 line.2 (held_more c.give_up-given_up.new.held c.fill.new.self kept)
           (c.in-Ok.ensures.ok told);
     }
+
+pub reading-smaller : goal.reading-smaller
+reading-smaller g c =
+    let many = as_many g (goal.at.reading-smaller g c).After-give_up-given_up in
+    let count = c.in-Ok.ensures.count in
+    omega arith
 
 pub returns-in-Err-clause-searches : goal.returns-in-Err-clause-searches
 returns-in-Err-clause-searches g c = λ told.
