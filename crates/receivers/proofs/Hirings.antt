@@ -1,5 +1,5 @@
 -- A number handed out by all roots.
-use Rattle.std.proofs.Common.{◌≡◌, ℕ, ◌+◌, ◌<◌, ◌≤◌, ◌==◌, ◌||◌, false, List, [], ◌∷◌, ◌++◌, length, refl, sym, ap, ◌∙◌, subst, arith, map, append_assoc}
+use Rattle.std.proofs.Common.{◌≡◌, ℕ, ◌+◌, ◌<◌, ◌≤◌, ◌==◌, ◌||◌, false, ◌^◌, Fits, w32, List, [], ◌∷◌, ◌++◌, length, refl, sym, ap, ◌∙◌, subst, arith, map, append_assoc, length-append}
 use Rattle.std.proofs.lemmas.Bool.Decides.{nat_tests}
 use Rattle.meter_address.specs.declared.address.Address.{Address}
 use Rattle.meter_slots.specs.declared.entry.Event.{Event}
@@ -68,3 +68,9 @@ module _ {W X O P : Type 0} (cells : List (CellShown O)) (strangers : CellShown 
   hires_receivers all left left' x left_is is h =
       h ∙ (ap (λ l. l ++ map receiver_of old) left_is ∙ (append_assoc left' (x ∷ []) (map receiver_of old)
       ∙ ((λ i. left' ++ sym is i ∷ map receiver_of old) ∙ ap (λ (l : List W). left' ++ map receiver_of l) (sym new_is))))
+
+-- where few were taken, the place of one that is left fits 32 bits, and its number does
+pub few_left : {X : Type 0} (all left rest : List X) (many place : ℕ) → all ≡ left ++ rest → many ≡ length all → many < 2 ^ 32
+    → length left ≡ place + 1 → Fits w32 place × Fits w32 (place + 1)
+few_left all left rest many place is m few n =
+    let l = ap length is in let p = length-append left rest in (omega arith, omega arith)

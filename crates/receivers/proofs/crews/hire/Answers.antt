@@ -2,12 +2,22 @@ use Rattle.std.proofs.Common.{rules, arith, ◌≡◌, ◌+◌, ℕ, [], ◌∷�
 use Rattle.receivers.specs.Passes.{crew}
 use Rattle.std.proofs.lemmas.List.{nil_from_length}
 use Rattle.receivers.specs.Crews.{AreCrews, AreRoots}
-use Rattle.receivers.proofs.Hirings.{hires_crews, hires_receivers}
+use Rattle.receivers.proofs.Hirings.{hires_crews, hires_receivers, few_left}
 use Rattle.receivers.proofs.Joinings.{one_less}
 use Rattle.receivers.proofs.crews.hire.Goals as goal
 
 pub loop-receiver-init : goal.loop-receiver-init
 loop-receiver-init g c = rw c.new-workers.ensures.items (c.requires.roots, tt, sym (append-nil c.args.receivers.now.items))
+
+pub overflow_cast-source : goal.overflow_cast-source
+overflow_cast-source g c =
+    (few_left c.args.receivers.now.items c.loop-receiver.receivers.items _ _ _ c.loop-receiver.invariant.2 c.args.receivers.now.ok.0
+    c.requires.few (sym c.loop-receiver.receivers.ok.0 ∙ (sym c.in-Some.ensures.cases ∙ ap (λ (k : ℕ). k + 1) (sym c.len.ensures)))).0
+
+pub overflow_add-source : goal.overflow_add-source
+overflow_add-source g c =
+    (few_left c.args.receivers.now.items c.loop-receiver.receivers.items _ _ _ c.loop-receiver.invariant.2 c.args.receivers.now.ok.0
+    c.requires.few (sym c.loop-receiver.receivers.ok.0 ∙ (sym c.in-Some.ensures.cases ∙ ap (λ (k : ℕ). k + 1) (sym c.len.ensures)))).1
 
 pub hire_one-requires-clause-roots : goal.hire_one-requires-clause-roots
 hire_one-requires-clause-roots g c =
