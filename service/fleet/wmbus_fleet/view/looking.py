@@ -12,7 +12,7 @@ from wmbus_service.page.reading import meters_of, rows_of, strangers
 from wmbus_service.page.shared import counted, times
 from wmbus_service.page.views import meter_data
 
-from ..status import PARTS, SILENT, UNITS
+from ..status import IS_REPEAT, PARTS, SILENT, UNITS
 
 # so many rows a page, so many things to look at of a kind
 MOST, FEW = 100, 10
@@ -28,21 +28,22 @@ COUNTS = {
     "commands": "select count(*) from command where state in ('waiting', 'queued', 'sent')",
     "downlinks_waiting": "select count(*) from outbox where sent is null and missed is null",
 }
-AREAS = """
+# (what another gateway, or a repeater, brought once more is no trouble of an area's)
+AREAS = f"""
 with heard as (select g.area, count(*) as meters, count(*) filter (where m.heard < ?) as silent_meters
         from meter m join gateway g on g.name = m.gateway group by g.area),
     refused as (select g.area, sum(r.times) as refused
-        from refusal r join meter m on m.address = r.address join gateway g on g.name = m.gateway group by g.area),
+        from refusal r join meter m on m.address = r.address join gateway g on g.name = m.gateway where not {IS_REPEAT} group by g.area),
     sending as (select area, count(*) as gateways, count(*) filter (where seen is null or seen < ?) as silent_gateways
         from gateway where not gone group by area)
 select a.name, coalesce(gateways, 0) as gateways, coalesce(silent_gateways, 0) as silent_gateways, coalesce(meters, 0) as meters,
     coalesce(silent_meters, 0) as silent_meters, coalesce(refused, 0) as refused
 from area a left join heard on heard.area = a.name left join refused on refused.area = a.name left join sending on sending.area = a.name
 order by a.name"""
-REFUSALS = """
+REFUSALS = f"""
 select r.reason, max(r.words) as words, sum(r.times) as times, count(*) as meters, max(r.last_made) as last_made
 from refusal r join meter m on m.address = r.address join gateway g on g.name = m.gateway where g.area = ?
-group by r.reason order by times desc, r.reason"""
+group by r.reason order by {IS_REPEAT}, times desc, r.reason"""
 GATEWAYS = """
 select g.name, g.area, g.seen, g.until, g.epoch, g.number, g.gone from gateway g
 where g.area = coalesce(?, g.area) and (not ? or not gone and (seen is null or seen < ?)) and g.name > ?
@@ -162,7 +163,8 @@ def area_page(database: Database, now: float, area: str) -> dict[str, Any] | Non
 
 STATES = {
     "": "", "silent": " and (m.heard is null or m.heard < {moment})", "read": " and m.heard >= {moment}",
-    "refused": " and exists (select 1 from refusal r where r.address = m.address and r.last_made > coalesce(m.heard, 0))",
+    "refused": " and exists (select 1 from refusal r where r.address = m.address and r.last_made > coalesce(m.heard, 0)"
+               f" and not {IS_REPEAT})",
 }
 
 

@@ -1,0 +1,36 @@
+"""What those who run a fleet meet: meters that many gateways hear, searches, tables of a year, words that are mistyped."""
+from __future__ import annotations
+
+import time
+from typing import Any
+
+import pytest
+from wmbus_fleet import metrics, store
+from wmbus_fleet.status import figures, in_words
+from wmbus_fleet.view.app import create_app
+
+from .test_parts import Fleet, fleet
+
+__all__ = ["fleet"]
+
+
+def data(fleet: Fleet, path: str, **asked: str) -> Any:
+    """What a page has, as data."""
+    return create_app(fleet.config).test_client().get(path, query_string=asked).get_json()
+
+
+@pytest.mark.parametrize("repeat", ["stale", "access"])
+def test_a_meter_that_two_gateways_hear(fleet: Fleet, repeat: str) -> None:
+    """Its copies are no trouble: only the meter whose key is wrong is found as refused, counted in its area, and named by `status`."""
+    now = time.time()
+    read, wrong = fleet.meters[0].name, fleet.meters[1].name
+    fleet.database.execute("update meter set gateway = %s", (fleet.gateway,))
+    fleet.database.execute("update meter set heard = %s where address = %s", (now - 60, read))
+    store.copy_rows(fleet.database, "refusal (address, reason, words, times, last_line, last_made)",
+                    [(read, repeat, f"{repeat} 5 5", 1000, 2, now - 59), (wrong, "mac", "mac", 3, 1, now - 600)])
+    assert [it["address"] for it in data(fleet, "/api/meters", state="refused")["meters"]] == [wrong]
+    assert [it["refused"] for it in data(fleet, "/api/overview")["areas"]] == [3]
+    assert [it["reason"] for it in data(fleet, f"/api/areas/{fleet.area}")["refusals"]] == ["mac", repeat]
+    assert [line for line in in_words(figures(fleet.database)) if line.startswith("refused ") and " for " in line] == [
+        f"refused 3 times for {wrong}: mac (docs/FORMATS.md says what to do)"]
+    assert metrics.take(fleet.config).labelled["area_refusals"] == {fleet.area: 3.0}
