@@ -34,3 +34,20 @@ def test_a_meter_that_two_gateways_hear(fleet: Fleet, repeat: str) -> None:
     assert [line for line in in_words(figures(fleet.database)) if line.startswith("refused ") and " for " in line] == [
         f"refused 3 times for {wrong}: mac (docs/FORMATS.md says what to do)"]
     assert metrics.take(fleet.config).labelled["area_refusals"] == {fleet.area: 3.0}
+
+
+@pytest.mark.parametrize("wanted", ["02000002", "0200 0002", "02.00.00.02", "ABC 02000002", "abc02000002", "ELS 02000002 01 07", "02000002 01 07"])
+def test_a_label_as_it_is_written(fleet: Fleet, wanted: str) -> None:
+    """A meter is found by what its label has, and by what the page itself writes of it."""
+    fleet.database.execute("update meter set address = '9315' || '02000002' || '0107' where address = %s", (fleet.meters[0].name,))
+    (found,) = data(fleet, "/api/meters", q=wanted)["meters"]
+    assert found["address"] == "9315020000020107" and "02000002 01 07" in found["title"]
+
+
+@pytest.mark.parametrize("wanted", ["haus 5", "HAUS 5, WOHNUNG", "große", "GROßE"])
+def test_a_part_of_a_name(fleet: Fleet, wanted: str) -> None:
+    """In large and small letters, those of ASCII alone and others, page by page in the order of addresses."""
+    fleet.database.execute("update meter set name = 'Große Gasse, Haus 5, Wohnung ' || address")
+    names = sorted(meter.name for meter in fleet.meters)
+    assert [it["address"] for it in data(fleet, "/api/meters", q=wanted)["meters"]] == names
+    assert [it["address"] for it in data(fleet, "/api/meters", q=wanted, after=names[0])["meters"]] == names[1:]

@@ -18,7 +18,10 @@ from ..status import IS_REPEAT, PARTS, SILENT, UNITS
 MOST, FEW = 100, 10
 DAY = 86_400.0
 LAG = 300
-LETTERS = 'collate "und-x-icu"'
+# (of some locales, as C, PostgreSQL's own lower() knows the letters of ASCII alone; for these it takes a third of the time)
+LETTERS = {True: 'collate "C"', False: 'collate "und-x-icu"'}
+# a label's number as it is printed, also in pieces, behind its maker, and as the page itself tells it, with version and device type
+LABEL = re.compile("(?:[A-Za-z]{3} ?)?((?:[0-9][ .-]?){8})(?:[0-9a-fA-F]{2} [0-9a-fA-F]{2})?")
 # (each goes once over the meters, of which there may be a million)
 METERS = """
 select count(*) as meters, count(heard) as read, count(*) filter (where heard < ?) as silent_meters,
@@ -170,8 +173,10 @@ STATES = {
 
 def meters(database: Database, now: float, asked: dict[str, str]) -> dict[str, Any]:
     """The meters that somebody looks for, in the order of their addresses, behind one of them."""
-    where, values = ["m.address > ?"], [asked["after"]]
+    where, values, order = ["m.address > ?"], [asked["after"]], "m.address"
     if asked["q"]:
+        # (by the index of addresses all meters are fetched one by one, where few are so: PostgreSQL can't know how many have a text)
+        order = "m.address || ''"
         condition, given = _looked_for(asked["q"])
         where.append(condition)
         values += given
@@ -182,7 +187,7 @@ def meters(database: Database, now: float, asked: dict[str, str]) -> dict[str, A
         where.append("m.gateway in (select name from gateway where area = ?)")
         values.append(asked["area"])
     query = (f"select m.address, m.name, m.receiver from meter m where {' and '.join(where)}"
-             f"{STATES[asked['state']].format(moment=now - METER_SILENCE)} order by m.address limit {MOST + 1}")
+             f"{STATES[asked['state']].format(moment=now - METER_SILENCE)} order by {order} limit {MOST + 1}")
     rows = database.execute(query, values).fetchall()
     found = [meter_data(it) for it in meters_of(database, rows[:MOST], now)]
     return {"now": now, "asked": asked, "meters": found, "states": list(STATES), "after": rows[MOST - 1][0] if len(rows) > MOST else None,
@@ -191,14 +196,15 @@ def meters(database: Database, now: float, asked: dict[str, str]) -> dict[str, A
 
 def _looked_for(text: str) -> tuple[str, list[Any]]:
     """How a meter is looked for: by a part of its name, the first digits of its address, or the number on its label."""
-    # (of some locales, as C, PostgreSQL's own lower() knows the letters of ASCII alone)
-    conditions: list[str] = [f"position(lower(?::text {LETTERS}) in lower(m.name {LETTERS})) > 0"]
+    letters = LETTERS[text.isascii()]
+    conditions: list[str] = [f"position(lower(?::text {letters}) in lower(m.name {letters})) > 0"]
     values: list[Any] = [text]
     if re.fullmatch("[0-9a-fA-F]{4,16}", text):
         conditions.append("left(m.address, ?) = ?")
         values += [len(text), text.lower()]
-    if re.fullmatch("[0-9]{8}", text):
+    if label := LABEL.fullmatch(text):
         # (it stands there with its low byte first)
+        number = re.sub("[^0-9]", "", label[1])
         conditions.append("substr(m.address, 5, 8) = ?")
-        values.append("".join(text[place:place + 2] for place in (6, 4, 2, 0)))
+        values.append("".join(number[place:place + 2] for place in (6, 4, 2, 0)))
     return f"({' or '.join(conditions)})", values
