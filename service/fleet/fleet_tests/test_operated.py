@@ -5,9 +5,10 @@ import time
 from typing import Any
 
 import pytest
-from wmbus_fleet import metrics, store
+from wmbus_fleet import commands, metrics, store
 from wmbus_fleet.status import figures, in_words
 from wmbus_fleet.view.app import create_app
+from wmbus_service.trouble import Trouble
 
 from .test_parts import Fleet, fleet
 
@@ -51,3 +52,16 @@ def test_a_part_of_a_name(fleet: Fleet, wanted: str) -> None:
     names = sorted(meter.name for meter in fleet.meters)
     assert [it["address"] for it in data(fleet, "/api/meters", q=wanted)["meters"]] == names
     assert [it["address"] for it in data(fleet, "/api/meters", q=wanted, after=names[0])["meters"]] == names[1:]
+
+
+def test_an_id_of_another_command(fleet: Fleet) -> None:
+    """Who gives a command the id of another one learns that it isn't taken; the same command once more is no trouble, as from a script."""
+    first, second = fleet.meters[0].name, fleet.meters[1].name
+    assert commands.put_command(fleet.database, "c1", first, "0102", 1) and not commands.put_command(fleet.database, "c1", first, "0102", 2)
+    commands.put_key(fleet.database, "k1", first, 32 * "a", 1)
+    fleet.database.execute("update command set state = 'done', payload = '' where id = 'k1'")
+    assert not commands.put_key(fleet.database, "k1", first, 32 * "a", 2)
+    for ident, address, payload in (("c1", second, "0102"), ("c1", first, "03"), ("k1", first, "03")):
+        with pytest.raises(Trouble, match="another command has this id"):
+            commands.put_command(fleet.database, ident, address, payload, 3)
+    assert store.pairs(fleet.database, "select id, made from command") == {"c1": 1, "k1": 1}

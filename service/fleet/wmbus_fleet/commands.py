@@ -31,13 +31,13 @@ def correct_key(config: Config, database: Database, address: str, key: str) -> N
     with store.transaction(database):
         # (a session that has the meter in hand ends before)
         database.execute("select pg_advisory_xact_lock(%s, shard_of(%s))", (store.SESSIONS, address))
-        block = _block_of(database, address, place)
+        block = block_of(database, address, place)
         block = with_key(words_of(config.programs.steps), store.setting(database, "own") or "", block, key_of(place, key), place)
         database.execute("update meter set block = %s where address = %s", (block, address))
         database.execute("delete from refusal where address = %s", (address,))
 
 
-def _block_of(database: Database, address: str, place: str) -> str:
+def block_of(database: Database, address: str, place: str) -> str:
     """What is known of a meter."""
     row = database.execute("select block from meter where address = %s", (address,)).fetchone()
     if row is None:
@@ -47,10 +47,16 @@ def _block_of(database: Database, address: str, place: str) -> str:
 
 def _put(database: Database, ident: str, address: str, kind: str, payload: str, now: float) -> bool:
     judge_ident(ident)
-    _block_of(database, address, f"command {ident}")
+    block_of(database, address, f"command {ident}")
     added = database.execute("insert into command (id, address, kind, payload, made, changed) values (%s, %s, %s, %s, %s, %s)"
                              " on conflict do nothing", (ident, address, kind, payload, now, now))
-    return bool(added.rowcount)
+    if added.rowcount:
+        return True
+    # (of a new key that is done, or was refused, nothing is kept)
+    if not database.execute("select 1 from command where id = %s and address = %s and kind = %s and (payload = %s or kind = 'rekey')",
+                            (ident, address, kind, payload)).fetchone():
+        raise Trouble(f"command {ident}", "another command has this id, and so this one isn't taken", "give it an id of its own")
+    return False
 
 
 def cancel_command(database: Database, ident: str, now: float) -> str:
