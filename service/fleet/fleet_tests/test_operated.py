@@ -2,10 +2,11 @@
 from __future__ import annotations
 
 import time
+from pathlib import Path
 from typing import Any
 
 import pytest
-from wmbus_fleet import commands, metrics, store
+from wmbus_fleet import commandline, commands, metrics, store
 from wmbus_fleet.status import figures, in_words
 from wmbus_fleet.view.app import create_app
 from wmbus_service.trouble import Trouble
@@ -54,6 +55,15 @@ def test_a_part_of_a_name(fleet: Fleet, wanted: str) -> None:
     assert [it["address"] for it in data(fleet, "/api/meters", q=wanted, after=names[0])["meters"]] == names[1:]
 
 
+def said(fleet: Fleet, folder: Path, capsys: pytest.CaptureFixture[str], *words: str) -> tuple[int, str]:
+    """What the command line says to some words, and its exit status."""
+    path = folder / "fleet.toml"
+    path.write_text(f'database = "{fleet.config.database}"\n')
+    status = commandline.main(["--config", str(path), *words])
+    told = capsys.readouterr()
+    return status, told.out + told.err
+
+
 def test_an_id_of_another_command(fleet: Fleet) -> None:
     """Who gives a command the id of another one learns that it isn't taken; the same command once more is no trouble, as from a script."""
     first, second = fleet.meters[0].name, fleet.meters[1].name
@@ -65,3 +75,20 @@ def test_an_id_of_another_command(fleet: Fleet) -> None:
         with pytest.raises(Trouble, match="another command has this id"):
             commands.put_command(fleet.database, ident, address, payload, 3)
     assert store.pairs(fleet.database, "select id, made from command") == {"c1": 1, "k1": 1}
+
+
+def test_commands_of_a_meter_that_there_is_none_of(fleet: Fleet, tmp_path: Path, capsys: pytest.CaptureFixture[str]) -> None:
+    """As where it is mistyped: that is said, in place of nothing, which means that it had no commands."""
+    assert said(fleet, tmp_path, capsys, "commands", fleet.meters[0].name.upper()) == (0, "")
+    assert said(fleet, tmp_path, capsys, "commands", "50000007") == (
+        1, "wmbus-fleet: meter 50000007: there is no meter 50000007; `wmbus-fleet commission ROSTER` adds meters\n")
+
+
+def test_a_command_and_a_cancellation_at_once(fleet: Fleet, tmp_path: Path, capsys: pytest.CaptureFixture[str]) -> None:
+    """Neither is done: of one of them nothing would be said."""
+    meter = fleet.meters[0].name
+    commands.put_command(fleet.database, "c1", meter, "0102", 1)
+    for words in ((meter, "03", "--cancel", "c1"), (meter, "--cancel", "c1"), ("--cancel", "c1", "--id", "c2")):
+        status, told = said(fleet, tmp_path, capsys, "command", *words)
+        assert status == 1 and "--cancel ID alone" in told
+    assert store.pairs(fleet.database, "select id, state from command") == {"c1": "waiting"}
