@@ -1,12 +1,17 @@
 """What those who run a fleet meet: meters that many gateways hear, searches, tables of a year, words that are mistyped."""
 from __future__ import annotations
 
+import subprocess
 import time
+from collections.abc import Iterator
+from contextlib import contextmanager
 from pathlib import Path
 from typing import Any
 
 import pytest
-from wmbus_fleet import commandline, commands, metrics, store
+from wmbus_fleet import broker, commandline, commands, metrics, store
+from wmbus_fleet.messages import lines_body
+from wmbus_fleet.own_servers import RABBIT
 from wmbus_fleet.status import figures, in_words
 from wmbus_fleet.view.app import create_app
 from wmbus_service.trouble import Trouble
@@ -92,3 +97,40 @@ def test_a_command_and_a_cancellation_at_once(fleet: Fleet, tmp_path: Path, caps
         status, told = said(fleet, tmp_path, capsys, "command", *words)
         assert status == 1 and "--cancel ID alone" in told
     assert store.pairs(fleet.database, "select id, state from command") == {"c1": "waiting"}
+
+
+def controlled(fleet: Fleet, *words: str) -> None:
+    """What rabbitmqctl does."""
+    subprocess.run([str(RABBIT.with_name("rabbitmqctl")), *words], env=fleet.both.rabbit.environment, stdout=subprocess.DEVNULL, check=True)
+
+
+@contextmanager
+def short_memory(fleet: Fleet) -> Iterator[None]:
+    """RabbitMQ thinks that its memory is short."""
+    controlled(fleet, "set_vm_memory_high_watermark", "0.00001")
+    try:
+        yield
+    finally:
+        controlled(fleet, "set_vm_memory_high_watermark", "0.4")
+
+
+@contextmanager
+def full_queue(fleet: Fleet) -> Iterator[None]:
+    """An area's queue takes no message."""
+    controlled(fleet, "set_policy", "full", f"^area.{fleet.area}$", '{"max-length": 0, "overflow": "reject-publish"}', "--apply-to", "queues")
+    try:
+        yield
+    finally:
+        controlled(fleet, "clear_policy", "full")
+
+
+@pytest.mark.parametrize("lacking, words", [(short_memory, "its memory or its disk is short"), (full_queue, "at a limit")])
+def test_a_broker_that_takes_nothing(fleet: Fleet, lacking: Any, words: str) -> None:
+    """A gateway says what is the matter with it, and its messages are taken once it has room again."""
+    def publish(number: int) -> None:
+        with broker.connected(fleet.config.broker) as connection:
+            broker.publish(broker.opened(connection), broker.EXCHANGE, broker.up_key(fleet.area, fleet.gateway), lines_body(5, number, 9, b""))
+    with lacking(fleet), pytest.raises(broker.FAULTS, match=words):
+        for number in range(1, 9):
+            publish(number)
+    publish(9)
