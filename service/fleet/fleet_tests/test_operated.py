@@ -134,3 +134,24 @@ def test_a_broker_that_takes_nothing(fleet: Fleet, lacking: Any, words: str) -> 
         for number in range(1, 9):
             publish(number)
     publish(9)
+
+
+def test_names_of_meters_that_arent_known(fleet: Fleet, tmp_path: Path, caplog: pytest.LogCaptureFixture) -> None:
+    """How many there are of them is said, and which is the first one; the others get their names."""
+    path = tmp_path / "names"
+    first, second = fleet.meters[0].name, fleet.meters[1].name
+    path.write_text(f"{first} House 1\n\n{16 * 'f'} House 2\n{second.upper()} House 3\n{16 * 'e'} House 4\n")
+    assert commands.put_names(fleet.database, path) == 2
+    assert "2 names are of meters that aren't known, first that of line 3" in caplog.text
+    named = store.pairs(fleet.database, "select address, name from meter")
+    assert (named[first], named[second]) == ("House 1", "House 3")
+
+
+@pytest.mark.parametrize("line", ["50000007 House 2", "{};House 2", "{}\tHouse 2", "House 2"])
+def test_a_name_without_an_address(fleet: Fleet, tmp_path: Path, line: str) -> None:
+    """A line with a label's number, or with another sign between, is named, and no meter gets a name."""
+    path = tmp_path / "names"
+    path.write_text(f"{fleet.meters[0].name} House 1\n" + line.format(fleet.meters[1].name) + "\n")
+    with pytest.raises(Trouble, match="line 2: it isn't an address, a space and a name"):
+        commands.put_names(fleet.database, path)
+    assert set(store.pairs(fleet.database, "select address, name from meter").values()) == {""}

@@ -1,17 +1,21 @@
 """What operators ask for: commands to meters, their cancellation, new second keys; areas, gateways and meters."""
 from __future__ import annotations
 
+import logging
 from collections.abc import Sequence
 from pathlib import Path
 
 from wmbus_service.commands import OPEN, judge_ident, key_of, payload_of
 from wmbus_service.config import NAME, words_of
+from wmbus_service.importing import ADDRESS
 from wmbus_service.meters import PIECE, judge_roster, meters_in, name_of, pieces_of, read_roster, with_key
 from wmbus_service.trouble import Trouble
 
 from . import broker, store
 from .config import Config
 from .store import Database
+
+log = logging.getLogger("wmbus")
 
 
 def put_command(database: Database, ident: str, address: str, payload: str, now: float) -> bool:
@@ -132,16 +136,23 @@ def _add_meters(database: Database, meters: Sequence[Sequence[str]]) -> int:
 
 
 def put_names(database: Database, path: Path) -> int:
-    """Names meters, as a file's lines say; how many."""
+    """Names meters, as a file's lines say; how many. Of meters that aren't known it says so."""
     try:
         # (some editors put a sign in front of the first line)
-        lines = [line.split(" ", 1) for line in path.read_text(encoding="utf-8-sig").splitlines() if line.strip()]
+        lines = list(enumerate(path.read_text(encoding="utf-8-sig").splitlines(), 1))
     except (OSError, UnicodeDecodeError) as fault:
         raise Trouble(path, f"the names can't be read: {fault}") from None
-    for number, words in enumerate(lines, 1):
-        if len(words) != 2 or not words[1].strip():
-            raise Trouble(f"{path}, line {number}", "it isn't an address, a space and a name")
+    told = [(number, *line.split(" ", 1)) for number, line in lines if line.strip()]
+    for number, *words in told:
+        if len(words) != 2 or not words[1].strip() or not ADDRESS.fullmatch(words[0].lower()):
+            raise Trouble(f"{path}, line {number}", "it isn't an address, a space and a name",
+                          "an address has sixteen hexadecimal digits, as in the roster")
+    addresses, names = [words[0].lower() for _, *words in told], [name_of(words[1].strip()) for _, *words in told]
     named = database.execute("update meter m set name = n.name from unnest(%s::text[], %s::text[]) as n (address, name)"
-                             " where m.address = n.address",
-                             ([address.lower() for address, _ in lines], [name_of(name.strip()) for _, name in lines]))
+                             " where m.address = n.address", (addresses, names))
+    unknown = {address for (address,) in database.execute("select n.address from unnest(%s::text[]) as n (address) where not exists"
+                                                          " (select 1 from meter m where m.address = n.address)", (addresses,)).fetchall()}
+    places = [number for (number, *_), address in zip(told, addresses, strict=True) if address in unknown]
+    if places:
+        log.warning("%s: %d names are of meters that aren't known, first that of line %d", path, len(places), places[0])
     return named.rowcount
