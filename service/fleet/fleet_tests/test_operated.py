@@ -1,6 +1,7 @@
 """What those who run a fleet meet: meters that many gateways hear, searches, tables of a year, words that are mistyped."""
 from __future__ import annotations
 
+import re
 import subprocess
 import time
 from collections.abc import Iterator
@@ -23,7 +24,7 @@ __all__ = ["fleet"]
 
 def data(fleet: Fleet, path: str, **asked: str) -> Any:
     """What a page has, as data."""
-    return create_app(fleet.config).test_client().get(path, query_string=asked).get_json()
+    return create_app(fleet.config).test_client().get(path, query_string=asked or None).get_json()
 
 
 @pytest.mark.parametrize("repeat", ["stale", "access"])
@@ -155,3 +156,33 @@ def test_a_name_without_an_address(fleet: Fleet, tmp_path: Path, line: str) -> N
     with pytest.raises(Trouble, match="line 2: it isn't an address, a space and a name"):
         commands.put_names(fleet.database, path)
     assert set(store.pairs(fleet.database, "select address, name from meter").values()) == {""}
+
+
+def linked(fleet: Fleet, path: str, words: str) -> str:
+    """Where a link of a page leads to, by its words."""
+    found = re.search(f'<a href="([^"]*)">(?:<[^>]*>)?{words}', create_app(fleet.config).test_client().get(path).text)
+    assert found, words
+    return found[1].replace("&amp;", "&")
+
+
+def test_silent_meters_beside_those_that_arent_installed_yet(fleet: Fleet) -> None:
+    """What the overview counts is what its links lead to: meters that are silent, and those that were never read."""
+    now = time.time()
+    stopped, read, unread = (meter.name for meter in fleet.meters)
+    fleet.database.execute("update meter set heard = case address when %s then %s when %s then %s end", (stopped, now - 3 * 86_400, read, now))
+    for words, wanted in (("1 meter</a>", stopped), ("1 meter was never read", unread)):
+        path = linked(fleet, "/", words)
+        assert [it["address"] for it in data(fleet, f"/api{path}")["meters"]] == [wanted], words
+    assert sorted(it["address"] for it in data(fleet, "/api/meters", state="silent")["meters"]) == sorted([stopped, unread])
+
+
+def test_silent_gateways_of_an_area(fleet: Fleet) -> None:
+    """Who looks at an area's gateways, and then at the silent ones, stays in the area; so do the data."""
+    commands.add_area(fleet.config, fleet.database, f"{fleet.area}-other")
+    commands.add_gateway(fleet.config, fleet.database, f"{fleet.area}-other", f"{fleet.gateway}-other")
+    path = linked(fleet, f"/gateways?area={fleet.area}", "silent ones alone")
+    for asked in (f"/api{path}", linked(fleet, path, "as JSON")):
+        told = data(fleet, asked)
+        assert (told["area"], told["silent"], [it["name"] for it in told["gateways"]]) == (fleet.area, True, [fleet.gateway])
+    assert linked(fleet, path, "all gateways") == f"/gateways?area={fleet.area}"
+    assert linked(fleet, "/gateways?silent=1", "all gateways") == "/gateways"

@@ -102,7 +102,7 @@ def _of_parts(running: dict[str, int], told: dict[str, Any], _now: float) -> Ite
                    " off.")
     silent = told["silent_meters"]
     if silent:
-        yield Look("look", "silent", counted(silent, "meter", "meters"), "/meters?state=silent",
+        yield Look("look", "silent", counted(silent, "meter", "meters"), "/meters?state=stopped",
                    "Each had a reading, and none for two days.")
 
 
@@ -165,7 +165,8 @@ def area_page(database: Database, now: float, area: str) -> dict[str, Any] | Non
 
 
 STATES = {
-    "": "", "silent": " and (m.heard is null or m.heard < {moment})", "read": " and m.heard >= {moment}",
+    "": "", "silent": " and (m.heard is null or m.heard < {moment})", "stopped": " and m.heard < {moment}", "unread": " and m.heard is null",
+    "read": " and m.heard >= {moment}",
     "refused": " and exists (select 1 from refusal r where r.address = m.address and r.last_made > coalesce(m.heard, 0)"
                f" and not {IS_REPEAT})",
 }
