@@ -10,6 +10,7 @@ from pathlib import Path
 from typing import Any
 
 import pytest
+from tests.kill import PYTHON
 from wmbus_fleet import broker, commandline, commands, metrics, store
 from wmbus_fleet.messages import lines_body
 from wmbus_fleet.own_servers import RABBIT
@@ -186,3 +187,13 @@ def test_silent_gateways_of_an_area(fleet: Fleet) -> None:
         assert (told["area"], told["silent"], [it["name"] for it in told["gateways"]]) == (fleet.area, True, [fleet.gateway])
     assert linked(fleet, path, "all gateways") == f"/gateways?area={fleet.area}"
     assert linked(fleet, "/gateways?silent=1", "all gateways") == "/gateways"
+
+
+def test_words_that_nobody_reads(fleet: Fleet, tmp_path: Path) -> None:
+    """Where the standard output is closed, as some timers start it, a command is taken as always."""
+    path = tmp_path / "fleet.toml"
+    path.write_text(f'database = "{fleet.config.database}"\n')
+    words = [PYTHON, str(Path(__file__).parents[1] / "wmbus-fleet"), "--config", str(path), "command", fleet.meters[0].name, "01"]
+    done = subprocess.run(["/bin/sh", "-c", 'exec "$@" >&-', "sh", *words], stderr=subprocess.PIPE, check=False)
+    assert (done.returncode, done.stderr) == (0, b"")
+    assert store.one(fleet.database, "select count(*) from command") == 1

@@ -40,7 +40,9 @@ def main(given: list[str]) -> int:
         # (under which PostgreSQL shows who works)
         os.environ.setdefault("PGAPPNAME", f"wmbus {asked.word}")
         asked.work(read_config(asked.config) if asked.is_configured else Config(), asked)
-        sys.stdout.flush()
+        if sys.stdout:
+            # (who started it may have closed it)
+            sys.stdout.flush()
         return DONE
     except Trouble as trouble:
         said = str(trouble)
