@@ -4,6 +4,7 @@ from __future__ import annotations
 import re
 import subprocess
 import time
+import tracemalloc
 from collections.abc import Iterator
 from contextlib import contextmanager
 from pathlib import Path
@@ -197,3 +198,16 @@ def test_words_that_nobody_reads(fleet: Fleet, tmp_path: Path) -> None:
     done = subprocess.run(["/bin/sh", "-c", 'exec "$@" >&-', "sh", *words], stderr=subprocess.PIPE, check=False)
     assert (done.returncode, done.stderr) == (0, b"")
     assert store.one(fleet.database, "select count(*) from command") == 1
+
+
+def test_many_names_take_little_memory(fleet: Fleet, tmp_path: Path) -> None:
+    """A million of them are no matter of gigabytes; the last one counts as the first does."""
+    path, count = tmp_path / "names", 50_000
+    path.write_text("".join(f"{place:016x} House {place}\n" for place in range(count)) + f"{fleet.meters[0].name} House\n")
+    tracemalloc.start()
+    try:
+        assert commands.put_names(fleet.database, path) == 1
+        assert tracemalloc.get_traced_memory()[1] < 300 * count
+    finally:
+        tracemalloc.stop()
+    assert store.pairs(fleet.database, "select address, name from meter")[fleet.meters[0].name] == "House"

@@ -2,7 +2,8 @@
 from __future__ import annotations
 
 import logging
-from collections.abc import Sequence
+from collections.abc import Iterator, Sequence
+from itertools import islice
 from pathlib import Path
 
 from wmbus_service.commands import OPEN, judge_ident, key_of, payload_of
@@ -136,23 +137,33 @@ def _add_meters(database: Database, meters: Sequence[Sequence[str]]) -> int:
 
 
 def put_names(database: Database, path: Path) -> int:
-    """Names meters, as a file's lines say; how many. Of meters that aren't known it says so."""
+    """Names meters, as a file's lines say, all of them or none; how many. Of meters that aren't known it says so."""
     try:
         # (some editors put a sign in front of the first line)
-        lines = list(enumerate(path.read_text(encoding="utf-8-sig").splitlines(), 1))
+        lines = path.read_text(encoding="utf-8-sig").splitlines()
     except (OSError, UnicodeDecodeError) as fault:
         raise Trouble(path, f"the names can't be read: {fault}") from None
-    told = [(number, *line.split(" ", 1)) for number, line in lines if line.strip()]
-    for number, *words in told:
-        if len(words) != 2 or not words[1].strip() or not ADDRESS.fullmatch(words[0].lower()):
-            raise Trouble(f"{path}, line {number}", "it isn't an address, a space and a name",
-                          "an address has sixteen hexadecimal digits, as in the roster")
-    addresses, names = [words[0].lower() for _, *words in told], [name_of(words[1].strip()) for _, *words in told]
-    named = database.execute("update meter m set name = n.name from unnest(%s::text[], %s::text[]) as n (address, name)"
-                             " where m.address = n.address", (addresses, names))
-    unknown = {address for (address,) in database.execute("select n.address from unnest(%s::text[]) as n (address) where not exists"
-                                                          " (select 1 from meter m where m.address = n.address)", (addresses,)).fetchall()}
-    places = [number for (number, *_), address in zip(told, addresses, strict=True) if address in unknown]
-    if places:
-        log.warning("%s: %d names are of meters that aren't known, first that of line %d", path, len(places), places[0])
-    return named.rowcount
+    named, unknown = 0, []
+    with store.transaction(database):
+        # (a million names take a gigabyte of memory at once)
+        told = _names_in(lines, path)
+        while piece := list(islice(told, PIECE)):
+            known = {address for (address,) in database.execute(
+                "update meter m set name = n.name from unnest(%s::text[], %s::text[]) as n (address, name) where m.address = n.address"
+                " returning m.address", ([address for _, address, _ in piece], [name for *_, name in piece])).fetchall()}
+            named += len(known)
+            unknown += [number for number, address, _ in piece if address not in known]
+    if unknown:
+        log.warning("%s: %d names are of meters that aren't known, first that of line %d", path, len(unknown), unknown[0])
+    return named
+
+
+def _names_in(lines: Sequence[str], path: Path) -> Iterator[tuple[int, str, str]]:
+    """The names of a file's lines: each line's number, the address and the name."""
+    for number, line in enumerate(lines, 1):
+        address, _, name = line.partition(" ")
+        if line.strip():
+            if not name.strip() or not ADDRESS.fullmatch(address.lower()):
+                raise Trouble(f"{path}, line {number}", "it isn't an address, a space and a name",
+                              "an address has sixteen hexadecimal digits, as in the roster")
+            yield number, address.lower(), name_of(name.strip())
