@@ -211,3 +211,14 @@ def test_many_names_take_little_memory(fleet: Fleet, tmp_path: Path) -> None:
     finally:
         tracemalloc.stop()
     assert store.pairs(fleet.database, "select address, name from meter")[fleet.meters[0].name] == "House"
+
+
+@pytest.mark.parametrize("more, wanted", [(9, []), (10, ["1 more gateway"]), (21, ["12 more gateways"])])
+def test_many_silent_gateways(fleet: Fleet, more: int, wanted: list[str]) -> None:
+    """Ten are named, and how many there are beside them is said, with all of them behind it."""
+    store.copy_rows(fleet.database, "gateway (name, area)", [(f"{fleet.gateway}-{place}", fleet.area) for place in range(more)])
+    looks = [it for it in data(fleet, "/api/overview")["looks"] if "gateway" in it["title"].lower()]
+    assert len([it for it in looks if it["title"].startswith("Gateway ")]) == 10
+    assert [it["title"] for it in looks if "more" in it["title"]] == wanted
+    if wanted:
+        assert len(data(fleet, f"/api{looks[-1]['link']}")["gateways"]) == more + 1

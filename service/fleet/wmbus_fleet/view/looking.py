@@ -80,7 +80,7 @@ def overview(database: Database, now: float) -> dict[str, Any]:
     """What needs a person first, then areas."""
     told = counts(database, now)
     running = workers(database)
-    found = [*_of_parts(running, told, now), *_of_gateways(database, now), *_of_rows(database, now)]
+    found = [*_of_parts(running, told, now), *_of_gateways(database, told, now), *_of_rows(database, now)]
     return {"now": now, "counts": told, "workers": running, "looks": [asdict(it) for it in sorted(found, key=lambda it: it.kind != "bad")],
             "areas": areas(database, now)}
 
@@ -106,12 +106,15 @@ def _of_parts(running: dict[str, int], told: dict[str, Any], _now: float) -> Ite
                    "Each had a reading, and none for two days.")
 
 
-def _of_gateways(database: Database, now: float) -> Iterator[Look]:
-    """Silent gateways, and gaps."""
+def _of_gateways(database: Database, told: dict[str, Any], now: float) -> Iterator[Look]:
+    """Silent gateways, the first of them by name, and gaps."""
     for row in gateways(database, now, None, True, "", FEW)["gateways"]:
         what = "never heard" if row["seen"] is None else _silence(now - row["seen"])
         yield Look("bad", what, f"Gateway {row['name']} in {row['area']}", f"/gateways?area={row['area']}",
                    "Has it power and a network? Its own log says whether the broker takes its name.")
+    if (more := told["silent_gateways"] - FEW) > 0:
+        yield Look("bad", "silent", counted(more, "more gateway", "more gateways"), "/gateways?silent=1",
+                   "Where many are it at once, look at the broker, the network and the intakes first.")
     for row in rows_of(database, f"select gateway, epoch, number, made from missing where made > ? order by made desc limit {FEW}",
                        (now - RECENT,)):
         yield Look("look", "began anew", f"Gateway {row['gateway']}", "/gateways",
