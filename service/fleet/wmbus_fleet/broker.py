@@ -30,7 +30,15 @@ ACCESS_REFUSED = 403
 ASKED_MILLISECONDS = 60_000
 # no queue takes a message; the broker goes, or says nothing
 NoQueue = pika.exceptions.UnroutableError
+# (what a node does that has too little of either: it reads nothing more of a connection that publishes, also not that this one ends)
+SHORT = "its memory or its disk is short (`rabbitmqctl status` on its machine says which)"
+# (before nothing comes of what waits for its acknowledgement)
+BLOCKED = PATIENCE / 2
 FAULTS = (pika.exceptions.AMQPError, OSError)
+
+
+class NotTaken(pika.exceptions.AMQPError):  # type: ignore[misc]
+    """The broker is there, and takes no message."""
 
 
 @contextmanager
@@ -85,7 +93,7 @@ def _parameters(told: Broker, host: str, port: int) -> Any:
     context = context_of(told) if told.tls else None
     return pika.ConnectionParameters(
         host, port, credentials=pika.PlainCredentials(told.user, password_of(told)), heartbeat=10, socket_timeout=5,
-        blocked_connection_timeout=PATIENCE, ssl_options=pika.SSLOptions(context, host) if context else None)
+        blocked_connection_timeout=BLOCKED, ssl_options=pika.SSLOptions(context, host) if context else None)
 
 
 @contextmanager
@@ -177,8 +185,13 @@ def publish(channel: Any, exchange: str, key: str, body: bytes, lives: int | Non
     when it was published."""
     properties = pika.BasicProperties(delivery_mode=PERSISTENT, expiration=None if lives is None else str(lives),
                                       timestamp=None if lives is None else int(time.time()))
-    with within(PATIENCE):
-        channel.basic_publish(exchange, key, body, properties, mandatory=True)
+    try:
+        with within(PATIENCE):
+            channel.basic_publish(exchange, key, body, properties, mandatory=True)
+    except pika.exceptions.ConnectionBlockedTimeout:
+        raise NotTaken(f"the broker takes no messages, since {SHORT}") from None
+    except pika.exceptions.NackError:
+        raise NotTaken("the broker refused a message: its queue is at a limit, or too few of its nodes work") from None
 
 
 def opened(connection: Any) -> Any:

@@ -40,7 +40,9 @@ def main(given: list[str]) -> int:
         # (under which PostgreSQL shows who works)
         os.environ.setdefault("PGAPPNAME", f"wmbus {asked.word}")
         asked.work(read_config(asked.config) if asked.is_configured else Config(), asked)
-        sys.stdout.flush()
+        if sys.stdout:
+            # (who started it may have closed it)
+            sys.stdout.flush()
         return DONE
     except Trouble as trouble:
         said = str(trouble)
@@ -193,6 +195,8 @@ def _commission(config: Config, asked: argparse.Namespace) -> None:
 
 def _commands(config: Config, asked: argparse.Namespace) -> None:
     with store.connect(config.database) as database:
+        if asked.address:
+            commands.block_of(database, asked.address.lower(), f"meter {asked.address}")
         for line in command_words(database, asked.address):
             print(line)
 
@@ -224,14 +228,14 @@ def _demo(asked: argparse.Namespace) -> None:
 def _command(config: Config, asked: argparse.Namespace) -> None:
     now = time.time()
     with store.connect(config.database) as database:
-        if asked.cancel:
+        if asked.cancel and not (asked.address or asked.id):
             print(f"{asked.cancel}: {commands.cancel_command(database, asked.cancel, now)}")
-        elif asked.address and asked.payload:
+        elif asked.address and asked.payload and not asked.cancel:
             ident = asked.id or secrets.token_hex(8)
             is_new = commands.put_command(database, ident, asked.address, asked.payload, now)
             print(ident if is_new else f"{ident}: it was taken before")
         else:
-            raise Trouble("command", "give METER and HEX, or --cancel ID")
+            raise Trouble("command", "give METER and HEX, or --cancel ID alone")
 
 
 def _key() -> str:

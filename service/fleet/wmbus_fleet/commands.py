@@ -1,17 +1,22 @@
 """What operators ask for: commands to meters, their cancellation, new second keys; areas, gateways and meters."""
 from __future__ import annotations
 
-from collections.abc import Sequence
+import logging
+from collections.abc import Iterator, Sequence
+from itertools import islice
 from pathlib import Path
 
 from wmbus_service.commands import OPEN, judge_ident, key_of, payload_of
 from wmbus_service.config import NAME, words_of
+from wmbus_service.importing import ADDRESS
 from wmbus_service.meters import PIECE, judge_roster, meters_in, name_of, pieces_of, read_roster, with_key
 from wmbus_service.trouble import Trouble
 
 from . import broker, store
 from .config import Config
 from .store import Database
+
+log = logging.getLogger("wmbus")
 
 
 def put_command(database: Database, ident: str, address: str, payload: str, now: float) -> bool:
@@ -31,13 +36,13 @@ def correct_key(config: Config, database: Database, address: str, key: str) -> N
     with store.transaction(database):
         # (a session that has the meter in hand ends before)
         database.execute("select pg_advisory_xact_lock(%s, shard_of(%s))", (store.SESSIONS, address))
-        block = _block_of(database, address, place)
+        block = block_of(database, address, place)
         block = with_key(words_of(config.programs.steps), store.setting(database, "own") or "", block, key_of(place, key), place)
         database.execute("update meter set block = %s where address = %s", (block, address))
         database.execute("delete from refusal where address = %s", (address,))
 
 
-def _block_of(database: Database, address: str, place: str) -> str:
+def block_of(database: Database, address: str, place: str) -> str:
     """What is known of a meter."""
     row = database.execute("select block from meter where address = %s", (address,)).fetchone()
     if row is None:
@@ -47,10 +52,16 @@ def _block_of(database: Database, address: str, place: str) -> str:
 
 def _put(database: Database, ident: str, address: str, kind: str, payload: str, now: float) -> bool:
     judge_ident(ident)
-    _block_of(database, address, f"command {ident}")
+    block_of(database, address, f"command {ident}")
     added = database.execute("insert into command (id, address, kind, payload, made, changed) values (%s, %s, %s, %s, %s, %s)"
                              " on conflict do nothing", (ident, address, kind, payload, now, now))
-    return bool(added.rowcount)
+    if added.rowcount:
+        return True
+    # (of a new key that is done, or was refused, nothing is kept)
+    if not database.execute("select 1 from command where id = %s and address = %s and kind = %s and (payload = %s or kind = 'rekey')",
+                            (ident, address, kind, payload)).fetchone():
+        raise Trouble(f"command {ident}", "another command has this id, and so this one isn't taken", "give it an id of its own")
+    return False
 
 
 def cancel_command(database: Database, ident: str, now: float) -> str:
@@ -126,16 +137,33 @@ def _add_meters(database: Database, meters: Sequence[Sequence[str]]) -> int:
 
 
 def put_names(database: Database, path: Path) -> int:
-    """Names meters, as a file's lines say; how many."""
+    """Names meters, as a file's lines say, all of them or none; how many. Of meters that aren't known it says so."""
     try:
         # (some editors put a sign in front of the first line)
-        lines = [line.split(" ", 1) for line in path.read_text(encoding="utf-8-sig").splitlines() if line.strip()]
+        lines = path.read_text(encoding="utf-8-sig").splitlines()
     except (OSError, UnicodeDecodeError) as fault:
         raise Trouble(path, f"the names can't be read: {fault}") from None
-    for number, words in enumerate(lines, 1):
-        if len(words) != 2 or not words[1].strip():
-            raise Trouble(f"{path}, line {number}", "it isn't an address, a space and a name")
-    named = database.execute("update meter m set name = n.name from unnest(%s::text[], %s::text[]) as n (address, name)"
-                             " where m.address = n.address",
-                             ([address.lower() for address, _ in lines], [name_of(name.strip()) for _, name in lines]))
-    return named.rowcount
+    named, unknown = 0, []
+    with store.transaction(database):
+        # (a million names take a gigabyte of memory at once)
+        told = _names_in(lines, path)
+        while piece := list(islice(told, PIECE)):
+            known = {address for (address,) in database.execute(
+                "update meter m set name = n.name from unnest(%s::text[], %s::text[]) as n (address, name) where m.address = n.address"
+                " returning m.address", ([address for _, address, _ in piece], [name for *_, name in piece])).fetchall()}
+            named += len(known)
+            unknown += [number for number, address, _ in piece if address not in known]
+    if unknown:
+        log.warning("%s: %d names are of meters that aren't known, first that of line %d", path, len(unknown), unknown[0])
+    return named
+
+
+def _names_in(lines: Sequence[str], path: Path) -> Iterator[tuple[int, str, str]]:
+    """The names of a file's lines: each line's number, the address and the name."""
+    for number, line in enumerate(lines, 1):
+        address, _, name = line.partition(" ")
+        if line.strip():
+            if not name.strip() or not ADDRESS.fullmatch(address.lower()):
+                raise Trouble(f"{path}, line {number}", "it isn't an address, a space and a name",
+                              "an address has sixteen hexadecimal digits, as in the roster")
+            yield number, address.lower(), name_of(name.strip())

@@ -251,7 +251,7 @@ class Agent:
         if is_taken or broker.declare_gateway(channel, self.told.name):
             # (both would number messages of their own under one name, and of each number one is taken)
             raise Trouble(f"gateway {self.told.name}", "another one with this name is connected, or its connection isn't closed yet",
-                          "where it stays so, give each its own name")
+                          f"where it stays so, give each its own name, unless the broker reads nothing of it, since {broker.SHORT}")
 
         def told(_channel: Any, method: Any, properties: Any, body: bytes) -> None:
             self.hear(body, time.time(), properties.timestamp)

@@ -49,7 +49,7 @@ GAUGES = {
 }
 LABELLED = {
     "gateways": ("gateways that are known", "area"), "gateways_silent": ("gateways that weren't heard for ten minutes", "area"),
-    "area_meters": ("meters, by the gateway that heard them last", "area"), "area_refusals": ("refused lines", "area"),
+    "area_meters": ("meters, by the gateway that heard them last", "area"), "area_refusals": ("refused lines, but for repeats", "area"),
     "queue_messages": ("messages of an area that wait for an intake", "area"), "workers": ("processes that are connected", "part"),
     "commands": ("commands", "state"), "table_bytes": ("size of a table with its indexes", "table"),
 }

@@ -8,6 +8,7 @@ from typing import Any
 
 from psycopg.rows import dict_row
 from wmbus_service.commands import OPEN
+from wmbus_service.page.shared import REPEATS
 
 from . import store
 from .intake import remedy_of
@@ -18,6 +19,8 @@ SILENT = 600
 
 
 IS_SILENT = f"g.seen is null or g.seen < now() - interval '{SILENT} seconds'"
+# of a meter that several gateways hear the copies are refused all the time, and nobody has to look at it
+IS_REPEAT = f"r.reason in ({', '.join(map(repr, sorted(REPEATS)))})"
 # by the gateway that heard a meter last
 REFUSALS = """
     select coalesce(g.area, '') as area, r.reason, sum(r.times)::bigint as times, count(*) as meters
@@ -71,7 +74,8 @@ def figures(database: Database) -> dict[str, Any]:
         "missing": _rows(database, f"select gateway, epoch, number from missing order by made desc limit {LAST}"),
         "downlinks_missed": _rows(database, "select address, gateway, down, missed from outbox where missed is not null"
                                             f" order by id desc limit {LAST}"),
-        "refusals": _rows(database, f"select address, words, times from refusal order by last_made desc limit {LAST}"),
+        "refusals": _rows(database, f"select address, words, times from refusal r where not {IS_REPEAT} order by last_made desc"
+                                    f" limit {LAST}"),
         "strangers": _rows(database, "select address, times, gateway from stranger s where not exists"
                                      f" (select 1 from meter m where m.address = s.address) order by times desc limit {LAST}"),
         "aside": _rows(database, f"select id, gateway, text, said from aside order by id desc limit {LAST}"),

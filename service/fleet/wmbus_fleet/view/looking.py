@@ -12,13 +12,16 @@ from wmbus_service.page.reading import meters_of, rows_of, strangers
 from wmbus_service.page.shared import counted, times
 from wmbus_service.page.views import meter_data
 
-from ..status import PARTS, SILENT, UNITS
+from ..status import IS_REPEAT, PARTS, SILENT, UNITS
 
 # so many rows a page, so many things to look at of a kind
 MOST, FEW = 100, 10
 DAY = 86_400.0
 LAG = 300
-LETTERS = 'collate "und-x-icu"'
+# (of some locales, as C, PostgreSQL's own lower() knows the letters of ASCII alone; for these it takes a third of the time)
+LETTERS = {True: 'collate "C"', False: 'collate "und-x-icu"'}
+# a label's number as it is printed, also in pieces, behind its maker, and as the page itself tells it, with version and device type
+LABEL = re.compile("(?:[A-Za-z]{3} ?)?((?:[0-9][ .-]?){8})(?:[0-9a-fA-F]{2} [0-9a-fA-F]{2})?")
 # (each goes once over the meters, of which there may be a million)
 METERS = """
 select count(*) as meters, count(heard) as read, count(*) filter (where heard < ?) as silent_meters,
@@ -28,21 +31,22 @@ COUNTS = {
     "commands": "select count(*) from command where state in ('waiting', 'queued', 'sent')",
     "downlinks_waiting": "select count(*) from outbox where sent is null and missed is null",
 }
-AREAS = """
+# (what another gateway, or a repeater, brought once more is no trouble of an area's)
+AREAS = f"""
 with heard as (select g.area, count(*) as meters, count(*) filter (where m.heard < ?) as silent_meters
         from meter m join gateway g on g.name = m.gateway group by g.area),
     refused as (select g.area, sum(r.times) as refused
-        from refusal r join meter m on m.address = r.address join gateway g on g.name = m.gateway group by g.area),
+        from refusal r join meter m on m.address = r.address join gateway g on g.name = m.gateway where not {IS_REPEAT} group by g.area),
     sending as (select area, count(*) as gateways, count(*) filter (where seen is null or seen < ?) as silent_gateways
         from gateway where not gone group by area)
 select a.name, coalesce(gateways, 0) as gateways, coalesce(silent_gateways, 0) as silent_gateways, coalesce(meters, 0) as meters,
     coalesce(silent_meters, 0) as silent_meters, coalesce(refused, 0) as refused
 from area a left join heard on heard.area = a.name left join refused on refused.area = a.name left join sending on sending.area = a.name
 order by a.name"""
-REFUSALS = """
+REFUSALS = f"""
 select r.reason, max(r.words) as words, sum(r.times) as times, count(*) as meters, max(r.last_made) as last_made
 from refusal r join meter m on m.address = r.address join gateway g on g.name = m.gateway where g.area = ?
-group by r.reason order by times desc, r.reason"""
+group by r.reason order by {IS_REPEAT}, times desc, r.reason"""
 GATEWAYS = """
 select g.name, g.area, g.seen, g.until, g.epoch, g.number, g.gone from gateway g
 where g.area = coalesce(?, g.area) and (not ? or not gone and (seen is null or seen < ?)) and g.name > ?
@@ -76,7 +80,7 @@ def overview(database: Database, now: float) -> dict[str, Any]:
     """What needs a person first, then areas."""
     told = counts(database, now)
     running = workers(database)
-    found = [*_of_parts(running, told, now), *_of_gateways(database, now), *_of_rows(database, now)]
+    found = [*_of_parts(running, told, now), *_of_gateways(database, told, now), *_of_rows(database, now)]
     return {"now": now, "counts": told, "workers": running, "looks": [asdict(it) for it in sorted(found, key=lambda it: it.kind != "bad")],
             "areas": areas(database, now)}
 
@@ -98,16 +102,19 @@ def _of_parts(running: dict[str, int], told: dict[str, Any], _now: float) -> Ite
                    " off.")
     silent = told["silent_meters"]
     if silent:
-        yield Look("look", "silent", counted(silent, "meter", "meters"), "/meters?state=silent",
+        yield Look("look", "silent", counted(silent, "meter", "meters"), "/meters?state=stopped",
                    "Each had a reading, and none for two days.")
 
 
-def _of_gateways(database: Database, now: float) -> Iterator[Look]:
-    """Silent gateways, and gaps."""
+def _of_gateways(database: Database, told: dict[str, Any], now: float) -> Iterator[Look]:
+    """Silent gateways, the first of them by name, and gaps."""
     for row in gateways(database, now, None, True, "", FEW)["gateways"]:
         what = "never heard" if row["seen"] is None else _silence(now - row["seen"])
         yield Look("bad", what, f"Gateway {row['name']} in {row['area']}", f"/gateways?area={row['area']}",
                    "Has it power and a network? Its own log says whether the broker takes its name.")
+    if (more := told["silent_gateways"] - FEW) > 0:
+        yield Look("bad", "silent", counted(more, "more gateway", "more gateways"), "/gateways?silent=1",
+                   "Where many are it at once, look at the broker, the network and the intakes first.")
     for row in rows_of(database, f"select gateway, epoch, number, made from missing where made > ? order by made desc limit {FEW}",
                        (now - RECENT,)):
         yield Look("look", "began anew", f"Gateway {row['gateway']}", "/gateways",
@@ -161,15 +168,19 @@ def area_page(database: Database, now: float, area: str) -> dict[str, Any] | Non
 
 
 STATES = {
-    "": "", "silent": " and (m.heard is null or m.heard < {moment})", "read": " and m.heard >= {moment}",
-    "refused": " and exists (select 1 from refusal r where r.address = m.address and r.last_made > coalesce(m.heard, 0))",
+    "": "", "silent": " and (m.heard is null or m.heard < {moment})", "stopped": " and m.heard < {moment}", "unread": " and m.heard is null",
+    "read": " and m.heard >= {moment}",
+    "refused": " and exists (select 1 from refusal r where r.address = m.address and r.last_made > coalesce(m.heard, 0)"
+               f" and not {IS_REPEAT})",
 }
 
 
 def meters(database: Database, now: float, asked: dict[str, str]) -> dict[str, Any]:
     """The meters that somebody looks for, in the order of their addresses, behind one of them."""
-    where, values = ["m.address > ?"], [asked["after"]]
+    where, values, order = ["m.address > ?"], [asked["after"]], "m.address"
     if asked["q"]:
+        # (by the index of addresses all meters are fetched one by one, where few are so: PostgreSQL can't know how many have a text)
+        order = "m.address || ''"
         condition, given = _looked_for(asked["q"])
         where.append(condition)
         values += given
@@ -180,7 +191,7 @@ def meters(database: Database, now: float, asked: dict[str, str]) -> dict[str, A
         where.append("m.gateway in (select name from gateway where area = ?)")
         values.append(asked["area"])
     query = (f"select m.address, m.name, m.receiver from meter m where {' and '.join(where)}"
-             f"{STATES[asked['state']].format(moment=now - METER_SILENCE)} order by m.address limit {MOST + 1}")
+             f"{STATES[asked['state']].format(moment=now - METER_SILENCE)} order by {order} limit {MOST + 1}")
     rows = database.execute(query, values).fetchall()
     found = [meter_data(it) for it in meters_of(database, rows[:MOST], now)]
     return {"now": now, "asked": asked, "meters": found, "states": list(STATES), "after": rows[MOST - 1][0] if len(rows) > MOST else None,
@@ -189,14 +200,15 @@ def meters(database: Database, now: float, asked: dict[str, str]) -> dict[str, A
 
 def _looked_for(text: str) -> tuple[str, list[Any]]:
     """How a meter is looked for: by a part of its name, the first digits of its address, or the number on its label."""
-    # (of some locales, as C, PostgreSQL's own lower() knows the letters of ASCII alone)
-    conditions: list[str] = [f"position(lower(?::text {LETTERS}) in lower(m.name {LETTERS})) > 0"]
+    letters = LETTERS[text.isascii()]
+    conditions: list[str] = [f"position(lower(?::text {letters}) in lower(m.name {letters})) > 0"]
     values: list[Any] = [text]
     if re.fullmatch("[0-9a-fA-F]{4,16}", text):
         conditions.append("left(m.address, ?) = ?")
         values += [len(text), text.lower()]
-    if re.fullmatch("[0-9]{8}", text):
+    if label := LABEL.fullmatch(text):
         # (it stands there with its low byte first)
+        number = re.sub("[^0-9]", "", label[1])
         conditions.append("substr(m.address, 5, 8) = ?")
-        values.append("".join(text[place:place + 2] for place in (6, 4, 2, 0)))
+        values.append("".join(number[place:place + 2] for place in (6, 4, 2, 0)))
     return f"({' or '.join(conditions)})", values
