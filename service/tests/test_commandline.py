@@ -17,7 +17,7 @@ from dataclasses import dataclass
 from pathlib import Path
 
 import pytest
-from wmbus_service import backup, config, exporting, service, store
+from wmbus_service import backup, config, exporting, meters, service, store
 from wmbus_service.backup import raise_counters
 from wmbus_service.commandline import main
 from wmbus_service.config import Config, Programs, has_steps, read_config, unproved_words
@@ -146,6 +146,31 @@ def test_a_key_that_is_corrected(place: Place) -> None:
     place.said("correct", ADDRESS, given=KEY)
     place.hear(recorded())
     assert place.said("export", "--json") == values
+
+
+def test_a_mode_that_is_corrected(place: Place) -> None:
+    """A meter that was added in mode 5 and sends in mode 7 is read from then on where its mode is corrected; and one of which messages of
+    mode 7 were stored stays in it, since no counter would keep them from coming again."""
+    place.said("add", ADDRESS, "--own", OWN, "--name", "cellar", "--mode", "5", given=KEY)
+    place.hear(recorded())
+    assert [it["words"] for it in json.loads(place.said("status", "--json"))["refusals"]] == ["mode 7 5"]
+    assert place.said("correct", ADDRESS, "--mode", "7", given=KEY) == f"meter {ADDRESS} has another key, in mode 7\n"
+    place.hear(recorded())
+    told = json.loads(place.said("status", "--json"))
+    assert [(it["name"], it["counter"]) for it in told["meters"]] == [("cellar", 8)] and not told["refusals"]
+    assert "stays in this mode" in place.fault("correct", ADDRESS, "--mode", "5", given=KEY)
+    assert place.said("correct", ADDRESS, "--mode", "7", given=KEY)
+    place.said("export", "--state", str(place.folder / "state"))
+    assert f"meter {ADDRESS} 7 {KEY} - 8 0 0" in (place.folder / "state").read_text()
+
+
+def test_numbers_of_the_mode_before() -> None:
+    """In another mode a meter has no second key, and no number of the mode before; its downlink counter stays, and all of the mode that it
+    has."""
+    block = f"meter {ADDRESS} 5 {KEY} - 42 7 8\nreading 1 42 2f2f\n"
+    assert meters.with_mode(block, "7", "it") == f"meter {ADDRESS} 7 {KEY} - - 7 8\nreading 1 42 2f2f\n"
+    assert meters.with_mode(block, "5", "it") == block
+    assert meters.with_mode(f"meter {ADDRESS} 7 {KEY} {KEY} - 7 8\n", "5", "it") == f"meter {ADDRESS} 5 {KEY} - - 7 8\n"
 
 
 @pytest.mark.parametrize("address, own, key, words", [

@@ -110,6 +110,7 @@ def _meter_words(command: Command) -> None:
     made.add_argument("--own", metavar="ADDRESS", help="the collector's own address, with the first meters")
     made = command("correct", _correct, "gives a meter another key in the place of its own, which was wrong; it is asked for as with `add`")
     made.add_argument("address", metavar="METER", type=_text)
+    made.add_argument("--mode", choices=MODES, help="its security mode too, where that was wrong")
     made = command("rekey", _rekey, "gives a meter of mode 7 its new second key, which is asked for as with `add`")
     made.add_argument("address", metavar="METER", type=_text)
 
@@ -289,8 +290,8 @@ def _correct(asked: argparse.Namespace) -> int:
     config, address = _config(asked), asked.address.lower()
     with _opened(config) as database:
         meters.judge_known(database, address, f"meter {address}")
-        meters.correct_key(config, database, address, _key_of(address))
-    print(f"meter {address} has another key")
+        meters.correct_key(config, database, address, _key_of(address), asked.mode)
+    print(f"meter {address} has another key" + (f", in mode {asked.mode}" if asked.mode else ""))
     return DONE
 
 
