@@ -480,6 +480,16 @@ def test_password_and_tls(tmp_path: Path, house: House) -> None:
         broker.try_connection(told)
 
 
+def test_a_broker_that_refuses_the_user(tmp_path: Path, house: House) -> None:
+    """Where the broker lets a user not in, `check` says that it is for its rights, and not that nobody listens at its port."""
+    mosquitto = Mosquitto(tmp_path / "broker", "allow_anonymous false\n")
+    try:
+        with pytest.raises(Trouble, match="the broker refuses the connection: not authorised; look at its"):
+            broker.try_connection(Mqtt(port=mosquitto.port))
+    finally:
+        mosquitto.end()
+
+
 def test_password_in_another_encoding(tmp_path: Path, house: House) -> None:
     """A password that isn't in UTF-8 is said to be so, without a sign of it, and what connects tries on, so that a right one is found."""
     (tmp_path / "password").write_bytes("sch\u00f6n".encode("latin-1"))
