@@ -173,6 +173,18 @@ def test_numbers_of_the_mode_before() -> None:
     assert meters.with_mode(f"meter {ADDRESS} 7 {KEY} {KEY} - 7 8\n", "5", "it") == f"meter {ADDRESS} 5 {KEY} - - 7 8\n"
 
 
+@pytest.mark.parametrize("given", ["00 11 22 33 44 55 66 77 88 99 AA BB CC DD EE FF\t\r\n", "00:11:22:33:44:55:66:77:88:99:AA:BB:CC:DD:EE:FF",
+                                   "00112233-44556677-8899AABB-CCDDEEFF", f"0x{KEY.upper()}"])
+def test_a_key_in_groups(place: Place, given: str) -> None:
+    """A key is taken as lists of keys have it, in groups with blanks, colons or hyphens between them, by each command that asks for one."""
+    place.said("add", ADDRESS, "--own", OWN, given=given)
+    place.said("correct", ADDRESS, given=given)
+    place.said("rekey", ADDRESS, given=given)
+    with closing(open_store(place.folder / "wmbus/wmbus.db")) as database:
+        assert KEY in database.execute("select block from meter").fetchone()[0]
+        assert database.execute("select payload from command").fetchall() == [(KEY,)]
+
+
 @pytest.mark.parametrize("address, own, key, words", [
     ("40301210", OWN, KEY, "meter 40301210: it isn't 16 hexadecimal digits; `meter_name` makes it"),
     (ADDRESS, "0131", KEY, "the collector's own address: it isn't 16 hexadecimal digits"),

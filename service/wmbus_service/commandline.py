@@ -16,7 +16,7 @@ from contextlib import closing
 from pathlib import Path
 
 from . import backup, checking, demo, exporting, importing, key_lists, meters, service, store
-from .commands import cancel_command, put_command, put_key
+from .commands import cancel_command, joined, put_command, put_key
 from .config import Config, Page, Programs, read_config, words_of
 from .printing import leave_unread, open_streams, parsed
 from .publications import Publications
@@ -266,7 +266,7 @@ def _secret(what: str) -> str:
 
 
 def _key(address: str) -> str:
-    return _secret(f"key of {address}").strip().lower().replace(" ", "")
+    return joined(_secret(f"key of {address}"))
 
 
 def _key_of(address: str) -> str:
