@@ -24,6 +24,7 @@ from wmbus_service.commandline import main
 from wmbus_service.commands import put_command
 from wmbus_service.config import Config, Keep, Programs, Receiver
 from wmbus_service.ending import Ending
+from wmbus_service.page import looks
 from wmbus_service.service import Service
 from wmbus_service.trouble import Trouble
 
@@ -231,6 +232,35 @@ def test_two_services(tmp_path: Path) -> None:
         service.lock(tmp_path / "wmbus")
     os.close(held)
     os.close(service.lock(tmp_path / "wmbus"))
+
+
+def test_sessions_that_stand_still(house: House) -> None:
+    """Where the service runs and none of its sessions can be committed, as on a full disk, page and `status` say so; and nothing of it once
+    they go on."""
+    held = service.lock(house.config.folder)
+    running = Service(house.config, house.database)
+
+    def told() -> list[str]:
+        now = time.time()
+        found = [it.to_do for it in looks.all_looks(house.config, house.database, [], [], now) if it.what == "stands still"]
+        return found + [line for line in status.status(house.config, False).split("\n") if "no session" in line]
+    try:
+        running.turn()
+        assert told() == []
+        os.utime(house.config.folder / "lock", (0, time.time() - 2410))
+        assert told() == ["It runs, and has had no session for 40 minutes. Its log says why.",
+                          "it has had no session for 40 minutes: journalctl -u wmbus says why"]
+        running.noted_at = 0.0
+        house.spool(house.whole(house.meters[0]))
+        house.database.execute("create temp trigger full before insert on reading begin select raise(abort, 'full'); end")
+        with pytest.raises(sqlite3.Error):
+            running.turn()
+        assert len(told()) == 2
+        house.database.execute("drop trigger full")
+        running.turn()
+        assert told() == []
+    finally:
+        os.close(held)
 
 
 def test_what_systemd_is_told(house: House, tmp_path: Path, monkeypatch: pytest.MonkeyPatch) -> None:

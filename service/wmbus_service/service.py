@@ -31,6 +31,8 @@ LEFT, MOST_LEFT = 0.05, 0.11
 ALIVE = 60.0
 # so often it is looked for what is kept no longer
 LET_GO = 3600.0
+# so often it is noted that sessions go on, and behind so long a time without a note it is told that they don't
+NOTED, STILL = 60.0, 600.0
 
 
 def lock(folder: Path, kind: int = fcntl.LOCK_EX) -> int:
@@ -66,6 +68,21 @@ def is_locked(folder: Path) -> bool:
     return False
 
 
+def note_session(folder: Path) -> None:
+    """Notes that sessions go on, for who looks at the folder alone: by the time of the lock, which a full disk takes too."""
+    with suppress(OSError):
+        os.utime(folder / "lock")
+
+
+def still_seconds(folder: Path, now: float) -> float:
+    """For how long the service that runs has had no session, where that is long."""
+    try:
+        seconds = now - (folder / "lock").stat().st_mtime
+    except FileNotFoundError:
+        return 0.0
+    return seconds if seconds > STILL else 0.0
+
+
 def notify(text: str) -> None:
     """Tells systemd, where it asked for it and hears it."""
     path = os.environ.get("NOTIFY_SOCKET")
@@ -91,6 +108,7 @@ class Service:
         self.session_made = time.monotonic()
         self.trouble = ""
         self.let_go_at = 0.0
+        self.noted_at = 0.0
         self.ages = retention.Ages(database)
 
     def run(self) -> None:
@@ -127,6 +145,10 @@ class Service:
         count = self.sessions.next(time.time())
         send_downlinks(self.config, self.database, time.time())
         self.session_made = time.monotonic()
+        # (by the clock by which it is looked at)
+        if abs(time.time() - self.noted_at) >= NOTED:
+            note_session(self.config.folder)
+            self.noted_at = time.time()
         self._let_go(1 + count // retention.PIECE)
         return count
 
@@ -153,6 +175,7 @@ def run(config: Config) -> None:
     leave_no_core()
     store.prepare_folder(config.folder)
     held = lock(config.folder)
+    note_session(config.folder)
     try:
         database = store.open_store(config.database, is_new=True)
         service = Service(config, database)
