@@ -173,8 +173,8 @@ def test_numbers_of_the_mode_before() -> None:
     assert meters.with_mode(f"meter {ADDRESS} 7 {KEY} {KEY} - 7 8\n", "5", "it") == f"meter {ADDRESS} 5 {KEY} - - 7 8\n"
 
 
-@pytest.mark.parametrize("given", ["00 11 22 33 44 55 66 77 88 99 AA BB CC DD EE FF\t\r\n", "00:11:22:33:44:55:66:77:88:99:AA:BB:CC:DD:EE:FF",
-                                   "00112233-44556677-8899AABB-CCDDEEFF", f"0x{KEY.upper()}"])
+@pytest.mark.parametrize("given", ["00 11 22 33 44 55 66 77 88 99 AA BB CC DD EE FF\t\r\n", f"0x{KEY.upper()}",
+                                   "00:11:22:33:44:55:66:77:88:99:AA:BB:CC:DD:EE:FF", "00112233-44556677-8899AABB-CCDDEEFF"])
 def test_a_key_in_groups(place: Place, given: str) -> None:
     """A key is taken as lists of keys have it, in groups with blanks, colons or hyphens between them, by each command that asks for one."""
     place.said("add", ADDRESS, "--own", OWN, given=given)
@@ -222,6 +222,19 @@ def test_a_meter_comes_with_its_name(place: Place, monkeypatch: pytest.MonkeyPat
         within.setattr(store, "commit", pulled)
         place.fault("add", ADDRESS, "--name", "cellar", given=KEY)
     assert [it["name"] for it in json.loads(place.said("status", "--json"))["meters"]] == ["cellar"]
+
+
+def test_a_disk_that_is_full(place: Place, monkeypatch: pytest.MonkeyPatch) -> None:
+    """A command for which there is no room says so of itself, and nothing of sessions and lines, which it has none of."""
+    place.said("add", ADDRESS, "--own", OWN, given=KEY)
+
+    def full(*_: object) -> int:
+        fault = sqlite3.OperationalError("database or disk is full")
+        fault.sqlite_errorname = "SQLITE_FULL"
+        raise fault
+    monkeypatch.setattr(backup, "back_up", full)
+    said = place.fault("backup", str(place.folder / "copy"))
+    assert said.endswith("wmbus-service: backup: the database: database or disk is full; make room on its disk; nothing was done\n")
 
 
 @pytest.mark.parametrize("words, wanted", [(["status"], "K\\xfcche \\u0141"), (["status", "--json"], '"K\\u00fcche \\u0141"'),

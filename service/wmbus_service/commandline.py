@@ -46,7 +46,7 @@ def main(given: list[str]) -> int:
     except Trouble as trouble:
         said = str(trouble)
     except sqlite3.Error as fault:
-        said = str(store.trouble_of(Path("the database"), fault))
+        said = str(store.trouble_of(asked.command, fault, "nothing was done"))
     except ImportError as fault:
         said = f"{fault}; docs/SERVICE.md names the packages of Debian that it wants"
     except BrokenPipeError:
@@ -74,7 +74,7 @@ def words() -> argparse.ArgumentParser:
 
     def command(name: str, work: Callable[[argparse.Namespace], int], told: str) -> argparse.ArgumentParser:
         made = kinds.add_parser(name, help=told, description=told, epilog=STATUSES)
-        made.set_defaults(work=work)
+        made.set_defaults(work=work, command=name)
         return made
 
     command("run", _run, "runs the service until it gets SIGTERM or SIGINT")
