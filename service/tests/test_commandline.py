@@ -7,6 +7,7 @@ import json
 import os
 import pty
 import signal
+import socket
 import sqlite3
 import subprocess
 import sys
@@ -222,6 +223,25 @@ def test_a_meter_comes_with_its_name(place: Place, monkeypatch: pytest.MonkeyPat
         within.setattr(store, "commit", pulled)
         place.fault("add", ADDRESS, "--name", "cellar", given=KEY)
     assert [it["name"] for it in json.loads(place.said("status", "--json"))["meters"]] == ["cellar"]
+
+
+def test_metrics_that_cant_be_served(place: Place) -> None:
+    """Without its metrics the service doesn't start: `check` says so where their host is none or their port another's, and that all is right
+    where it is the service itself that has the port."""
+    pytest.importorskip("prometheus_client")
+    told = place.config.read_text()
+    with socket.create_server(("127.0.0.1", 0)) as taken:
+        port = taken.getsockname()[1]
+        place.config.write_text(f"{told}[metrics]\nport = {port}\n")
+        assert f"wrong: metrics 127.0.0.1:{port}: they can't be served: " in place.fault("check")
+        held = service.lock(place.folder / "wmbus")
+        try:
+            assert f"right: metrics 127.0.0.1:{port}\n" in place.fault("check")
+        finally:
+            os.close(held)
+    assert f"right: metrics 127.0.0.1:{port}\n" in place.fault("check")
+    place.config.write_text(f'{told}[metrics]\nhost = "256.0.0.1"\n')
+    assert "wrong: metrics 256.0.0.1:9101: they can't be served: " in place.fault("check")
 
 
 def test_a_disk_that_is_full(place: Place, monkeypatch: pytest.MonkeyPatch) -> None:

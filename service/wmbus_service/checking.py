@@ -14,8 +14,8 @@ from contextlib import closing, suppress
 from dataclasses import dataclass, replace
 from pathlib import Path
 
-from . import meters, store
-from .config import Config, Mqtt, Page, Receiver, unproved_words, words_of
+from . import meters, service, store
+from .config import Config, Metrics, Mqtt, Page, Receiver, unproved_words, words_of
 from .receiving import PROFILES, feed_of
 from .steps import ProgramFailed, output_of, run_steps, state_text
 from .trouble import Trouble
@@ -67,6 +67,8 @@ def check(config: Config) -> Iterator[Finding]:
         yield tried(f"downlinks of {name}", lambda name=name, told=told: look_at_downlinks(name, told))  # type: ignore[misc]
     if config.mqtt:
         yield tried(f"MQTT broker {config.mqtt.host}:{config.mqtt.port}", lambda: look_at_broker(config, config.mqtt))
+    if config.metrics:
+        yield tried(f"metrics {config.metrics.host}:{config.metrics.port}", lambda: look_at_metrics(config, config.metrics))
     if config.page:
         yield tried(f"page {config.page.host}:{config.page.port}", lambda: look_at_page(config.page))
 
@@ -205,6 +207,13 @@ def look_at_broker(config: Config, told: Mqtt | None) -> None:
     from .broker import try_connection
     assert told
     try_connection(told)
+
+
+def look_at_metrics(config: Config, told: Metrics | None) -> None:
+    """Whether the metrics can be served, without which the service doesn't start."""
+    from . import metrics
+    assert told
+    metrics.look_at_metrics(told, service.is_locked(config.folder))
 
 
 def look_at_page(told: Page | None) -> None:

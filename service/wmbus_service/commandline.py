@@ -81,7 +81,7 @@ def words() -> argparse.ArgumentParser:
     command("receive", _receive, "feeds the spool from a receiver").add_argument("name", metavar="NAME",
                                                                                  help="the receiver's name in the configuration")
     command("page", _page, "serves the page that people look at, until it gets SIGTERM or SIGINT")
-    command("check", _check, "looks at configuration, rights, programs, meters, receivers, broker and page, and says what is wrong")
+    command("check", _check, "looks at configuration, rights, programs, meters, receivers, broker, metrics and page, and says what is wrong")
     made = command("status", _status, "says what was heard and what somebody should look at")
     made.add_argument("--json", action="store_true", help="as data")
     _meter_words(command)
