@@ -248,6 +248,10 @@ def test_sessions_that_stand_still(house: House) -> None:
         running.turn()
         assert told() == []
         os.utime(house.config.folder / "lock", (0, time.time() - 2410))
+        # (one of before, which notes nothing, isn't told of)
+        assert told() == []
+        os.write(held, b"noted")
+        os.utime(house.config.folder / "lock", (0, time.time() - 2410))
         assert told() == ["It runs, and has had no session for 40 minutes. Its log says why.",
                           "it has had no session for 40 minutes: journalctl -u wmbus says why"]
         running.noted_at = 0.0
@@ -274,6 +278,7 @@ def test_what_systemd_is_told(house: House, tmp_path: Path, monkeypatch: pytest.
         child = Child(tmp_path / "log", lambda: service.run(house.config))
         assert [told.recv(100), told.recv(100)] == [b"READY=1", b"WATCHDOG=1"]
         assert service.is_locked(house.config.folder)
+        assert service.still_seconds(house.config.folder, time.time() + 3600) > 3000
         assert child.end(signal.SIGTERM) == 0
         last = told.recv(100)
         while last == b"WATCHDOG=1":

@@ -77,10 +77,11 @@ def note_session(folder: Path) -> None:
 def still_seconds(folder: Path, now: float) -> float:
     """For how long the service that runs has had no session, where that is long."""
     try:
-        seconds = now - (folder / "lock").stat().st_mtime
+        told = (folder / "lock").stat()
     except FileNotFoundError:
         return 0.0
-    return seconds if seconds > STILL else 0.0
+    # (one that was started before an upgrade may note nothing)
+    return now - told.st_mtime if told.st_size and now - told.st_mtime > STILL else 0.0
 
 
 def notify(text: str) -> None:
@@ -175,6 +176,8 @@ def run(config: Config) -> None:
     leave_no_core()
     store.prepare_folder(config.folder)
     held = lock(config.folder)
+    with suppress(OSError):
+        os.pwrite(held, b"its time is that of the last session\n", 0)
     note_session(config.folder)
     try:
         database = store.open_store(config.database, is_new=True)
