@@ -225,6 +225,20 @@ def test_a_meter_comes_with_its_name(place: Place, monkeypatch: pytest.MonkeyPat
     assert [it["name"] for it in json.loads(place.said("status", "--json"))["meters"]] == ["cellar"]
 
 
+def test_paths_of_the_folder_in_which_one_stands(place: Place, monkeypatch: pytest.MonkeyPatch) -> None:
+    """A file that is named without its folder is found by who checks it there, and by no unit: it is named as wrong."""
+    monkeypatch.chdir(place.folder)
+    (place.folder / "token").touch(0o600)
+    (place.folder / "token").write_text("0123456789abcdef0123456789abcdef\n")
+    told = place.config.read_text()
+    place.config.write_text(f'{told}downlinks = "attic.downlinks"\n[page]\ntoken_file = "token"\n')
+    said = place.fault("check")
+    for name in ("receivers.attic.downlinks", "page.token_file"):
+        assert f"wrong: {name}: it isn't a path from the root on" in said
+    place.config.write_text(f'{told}downlinks = "{place.folder}/attic.downlinks"\n[page]\ntoken_file = "{place.folder}/token"\n')
+    assert "from the root" not in place.fault("check")
+
+
 def test_metrics_that_cant_be_served(place: Place) -> None:
     """Without its metrics the service doesn't start: `check` says so where their host is none or their port another's, and that all is right
     where it is the service itself that has the port."""

@@ -50,6 +50,10 @@ def check(config: Config) -> Iterator[Finding]:
     """Looks at everything, one after the other."""
     yield tried(f"folder {config.folder}", lambda: store.prepare_folder(config.folder))
     yield tried(f"room on the disk of {config.folder}", lambda: look_at_room(config.folder))
+    for name, path in paths_of(config):
+        if path and not path.startswith("/"):
+            # (found from the folder in which somebody checks it, and not by the units, which begin in that of the root)
+            yield tried(name, lambda name=name: refuse_path(name))  # type: ignore[misc]
     if config.database.exists():
         yield tried(f"database {config.database}", lambda: store.open_store(config.database).close())
     found = tried(f"program {config.programs.steps}", lambda: look_at_steps(config))
@@ -81,6 +85,22 @@ def tried(name: str, look: Callable[[], object]) -> Finding:
         told = store.trouble_of(name, fault) if isinstance(fault, sqlite3.Error) else fault
         return Finding(name, str(told) if isinstance(told, Trouble) else f"{name}: {told}")
     return Finding(name)
+
+
+def paths_of(config: Config) -> Iterator[tuple[str, str]]:
+    """The files that a configuration names beside its folder, each with its setting."""
+    yield "roster", config.roster
+    for name, told in config.receivers.items():
+        yield from ((f"receivers.{name}.{word}", getattr(told, word)) for word in ("device", "file", "downlinks"))
+    if config.mqtt:
+        yield from (("mqtt.password_file", config.mqtt.password_file), ("mqtt.authority", config.mqtt.authority))
+    if config.page:
+        yield from ((f"page.{word}", getattr(config.page, word)) for word in ("token_file", "certificate", "key"))
+
+
+def refuse_path(name: str) -> None:
+    """A path that is another one wherever somebody stands."""
+    raise Trouble(name, "it isn't a path from the root on, and the units look for it elsewhere than you do here", "write its whole path")
 
 
 def look_at_room(folder: Path) -> None:
