@@ -30,6 +30,7 @@ from wmbus_service.store import open_store, prepare_folder
 from .kill import PYTHON, TOP, Child, program
 from .processes import PATIENCE, run, until
 from .stand_in import use_stand_in
+from .test_operation import NOBODY, as_root
 
 ADDRESS, KEY = "4304101230400104", "00112233445566778899aabbccddeeff"
 OWN = "9315010000000131"
@@ -237,6 +238,26 @@ def test_paths_of_the_folder_in_which_one_stands(place: Place, monkeypatch: pyte
         assert f"wrong: {name}: it isn't a path from the root on" in said
     place.config.write_text(f'{told}downlinks = "{place.folder}/attic.downlinks"\n[page]\ntoken_file = "{place.folder}/token"\n')
     assert "from the root" not in place.fault("check")
+
+
+@as_root
+def test_a_user_who_isnt_the_services(place: Place, tmp_path: Path) -> None:
+    """Who checks it without sudo is told so of the folder, and of all else what can be told; and of a configuration that isn't for everybody
+    that sudo reads it."""
+    place.said("add", ADDRESS, "--own", OWN, given=KEY)
+    for path in (tmp_path.parent.parent, tmp_path.parent, tmp_path):
+        path.chmod(0o755)
+    os.seteuid(NOBODY)
+    try:
+        said = place.fault("check")
+        os.seteuid(0)
+        place.config.chmod(0o600)
+        os.seteuid(NOBODY)
+        unread = place.fault("check")
+    finally:
+        os.seteuid(0)
+    assert "it belongs to the user 0, and this is 65534" in said and "receivers.attic: it can't send" in said
+    assert "can't be read: Permission denied; start it with sudo" in unread
 
 
 def test_metrics_that_cant_be_served(place: Place) -> None:

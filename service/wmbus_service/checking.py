@@ -54,7 +54,8 @@ def check(config: Config) -> Iterator[Finding]:
         if path and not path.startswith("/"):
             # (found from the folder in which somebody checks it, and not by the units, which begin in that of the root)
             yield tried(name, lambda name=name: refuse_path(name))  # type: ignore[misc]
-    if config.database.exists():
+    # (who may not look into the folder is told so of the folder, and of the rest what can be told)
+    if os.path.exists(config.database):
         yield tried(f"database {config.database}", lambda: store.open_store(config.database).close())
     found = tried(f"program {config.programs.steps}", lambda: look_at_steps(config))
     yield replace(found, note=unproved_words(config.programs.steps))
