@@ -72,6 +72,24 @@ def test_disk_full(house: House, caplog: pytest.LogCaptureFixture) -> None:
     assert len(house.all("select id from reading")) == 300
 
 
+def test_trouble_that_is_over(house: House, monkeypatch: pytest.MonkeyPatch, caplog: pytest.LogCaptureFixture) -> None:
+    """What was wrong is the last that the log says of it only as long as it is so: once a session was committed it says that they go on."""
+    caplog.set_level("INFO", "wmbus")
+    served, left = Service(house.config, house.database), [Trouble("the disk", "it is full")] * 2
+    monkeypatch.setattr(service, "LEAST_PAUSE", 0.01)
+
+    def turn() -> int:
+        if left:
+            raise left.pop()
+        if served.trouble == "":
+            served.ending.set()
+        return 1
+    monkeypatch.setattr(served, "turn", turn)
+    served.config = replace(house.config, interval=0.01)
+    served.run()
+    assert [record.getMessage() for record in caplog.records] == ["the disk: it is full", "sessions go on"]
+
+
 @as_root
 def test_read_only(tmp_path: Path) -> None:
     """A database that can't be written is said to be so, before anything is heard."""

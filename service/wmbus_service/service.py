@@ -120,6 +120,8 @@ class Service:
             watched, began = None, time.monotonic()
             try:
                 count = self.turn()
+                if self.trouble:
+                    log.info("sessions go on")
                 pause, self.trouble = LEAST_PAUSE, ""
                 left = min(LEFT * (time.monotonic() - began), MOST_LEFT)
                 wait = left if count >= MOST // 2 or count >= self.sessions.most else self.config.interval
