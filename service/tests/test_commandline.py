@@ -247,6 +247,8 @@ def test_a_user_who_isnt_the_services(place: Place, tmp_path: Path) -> None:
     place.said("add", ADDRESS, "--own", OWN, given=KEY)
     for path in (tmp_path.parent.parent, tmp_path.parent, tmp_path):
         path.chmod(0o755)
+    # (whatever the umask is)
+    place.config.chmod(0o644)
     os.seteuid(NOBODY)
     try:
         said = place.fault("check")
