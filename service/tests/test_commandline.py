@@ -7,6 +7,7 @@ import json
 import os
 import pty
 import signal
+import socket
 import sqlite3
 import subprocess
 import sys
@@ -17,7 +18,7 @@ from dataclasses import dataclass
 from pathlib import Path
 
 import pytest
-from wmbus_service import backup, config, exporting, service, store
+from wmbus_service import backup, config, exporting, meters, service, store
 from wmbus_service.backup import raise_counters
 from wmbus_service.commandline import main
 from wmbus_service.config import Config, Programs, has_steps, read_config, unproved_words
@@ -29,6 +30,7 @@ from wmbus_service.store import open_store, prepare_folder
 from .kill import PYTHON, TOP, Child, program
 from .processes import PATIENCE, run, until
 from .stand_in import use_stand_in
+from .test_operation import NOBODY, as_root
 
 ADDRESS, KEY = "4304101230400104", "00112233445566778899aabbccddeeff"
 OWN = "9315010000000131"
@@ -148,6 +150,43 @@ def test_a_key_that_is_corrected(place: Place) -> None:
     assert place.said("export", "--json") == values
 
 
+def test_a_mode_that_is_corrected(place: Place) -> None:
+    """A meter that was added in mode 5 and sends in mode 7 is read from then on where its mode is corrected; and one of which messages of
+    mode 7 were stored stays in it, since no counter would keep them from coming again."""
+    place.said("add", ADDRESS, "--own", OWN, "--name", "cellar", "--mode", "5", given=KEY)
+    place.hear(recorded())
+    assert [it["words"] for it in json.loads(place.said("status", "--json"))["refusals"]] == ["mode 7 5"]
+    assert place.said("correct", ADDRESS, "--mode", "7", given=KEY) == f"meter {ADDRESS} has another key, in mode 7\n"
+    place.hear(recorded())
+    told = json.loads(place.said("status", "--json"))
+    assert [(it["name"], it["counter"]) for it in told["meters"]] == [("cellar", 8)] and not told["refusals"]
+    assert "stays in this mode" in place.fault("correct", ADDRESS, "--mode", "5", given=KEY)
+    assert place.said("correct", ADDRESS, "--mode", "7", given=KEY)
+    place.said("export", "--state", str(place.folder / "state"))
+    assert f"meter {ADDRESS} 7 {KEY} - 8 0 0" in (place.folder / "state").read_text()
+
+
+def test_numbers_of_the_mode_before() -> None:
+    """In another mode a meter has no second key, and no number of the mode before; its downlink counter stays, and all of the mode that it
+    has."""
+    block = f"meter {ADDRESS} 5 {KEY} - 42 7 8\nreading 1 42 2f2f\n"
+    assert meters.with_mode(block, "7", "it") == f"meter {ADDRESS} 7 {KEY} - - 7 8\nreading 1 42 2f2f\n"
+    assert meters.with_mode(block, "5", "it") == block
+    assert meters.with_mode(f"meter {ADDRESS} 7 {KEY} {KEY} - 7 8\n", "5", "it") == f"meter {ADDRESS} 5 {KEY} - - 7 8\n"
+
+
+@pytest.mark.parametrize("given", ["00 11 22 33 44 55 66 77 88 99 AA BB CC DD EE FF\t\r\n", f"0x{KEY.upper()}",
+                                   "00:11:22:33:44:55:66:77:88:99:AA:BB:CC:DD:EE:FF", "00112233-44556677-8899AABB-CCDDEEFF"])
+def test_a_key_in_groups(place: Place, given: str) -> None:
+    """A key is taken as lists of keys have it, in groups with blanks, colons or hyphens between them, by each command that asks for one."""
+    place.said("add", ADDRESS, "--own", OWN, given=given)
+    place.said("correct", ADDRESS, given=given)
+    place.said("rekey", ADDRESS, given=given)
+    with closing(open_store(place.folder / "wmbus/wmbus.db")) as database:
+        assert KEY in database.execute("select block from meter").fetchone()[0]
+        assert database.execute("select payload from command").fetchall() == [(KEY,)]
+
+
 @pytest.mark.parametrize("address, own, key, words", [
     ("40301210", OWN, KEY, "meter 40301210: it isn't 16 hexadecimal digits; `meter_name` makes it"),
     (ADDRESS, "0131", KEY, "the collector's own address: it isn't 16 hexadecimal digits"),
@@ -185,6 +224,74 @@ def test_a_meter_comes_with_its_name(place: Place, monkeypatch: pytest.MonkeyPat
         within.setattr(store, "commit", pulled)
         place.fault("add", ADDRESS, "--name", "cellar", given=KEY)
     assert [it["name"] for it in json.loads(place.said("status", "--json"))["meters"]] == ["cellar"]
+
+
+def test_paths_of_the_folder_in_which_one_stands(place: Place, monkeypatch: pytest.MonkeyPatch) -> None:
+    """A file that is named without its folder is found by who checks it there, and by no unit: it is named as wrong."""
+    monkeypatch.chdir(place.folder)
+    (place.folder / "token").touch(0o600)
+    (place.folder / "token").write_text("0123456789abcdef0123456789abcdef\n")
+    told = place.config.read_text()
+    place.config.write_text(f'{told}downlinks = "attic.downlinks"\n[page]\ntoken_file = "token"\n')
+    said = place.fault("check")
+    for name in ("receivers.attic.downlinks", "page.token_file"):
+        assert f"wrong: {name}: it isn't a path from the root on" in said
+    place.config.write_text(f'{told}downlinks = "{place.folder}/attic.downlinks"\n[page]\ntoken_file = "{place.folder}/token"\n')
+    assert "from the root" not in place.fault("check")
+
+
+@as_root
+def test_a_user_who_isnt_the_services(place: Place, tmp_path: Path) -> None:
+    """Who checks it without sudo is told so of the folder, and of all else what can be told; and of a configuration that isn't for everybody
+    that sudo reads it."""
+    place.said("add", ADDRESS, "--own", OWN, given=KEY)
+    for path in (tmp_path.parent.parent, tmp_path.parent, tmp_path):
+        path.chmod(0o755)
+    # (whatever the umask is)
+    place.config.chmod(0o644)
+    os.seteuid(NOBODY)
+    try:
+        said = place.fault("check")
+        os.seteuid(0)
+        place.config.chmod(0o600)
+        os.seteuid(NOBODY)
+        unread = place.fault("check")
+    finally:
+        os.seteuid(0)
+    assert "it belongs to the user 0, and this is 65534" in said and "receivers.attic: it can't send" in said
+    assert "can't be read: Permission denied; start it with sudo" in unread
+
+
+def test_metrics_that_cant_be_served(place: Place) -> None:
+    """Without its metrics the service doesn't start: `check` says so where their host is none or their port another's, and that all is right
+    where it is the service itself that has the port."""
+    pytest.importorskip("prometheus_client")
+    told = place.config.read_text()
+    with socket.create_server(("127.0.0.1", 0)) as taken:
+        port = taken.getsockname()[1]
+        place.config.write_text(f"{told}[metrics]\nport = {port}\n")
+        assert f"wrong: metrics 127.0.0.1:{port}: they can't be served: " in place.fault("check")
+        held = service.lock(place.folder / "wmbus")
+        try:
+            assert f"right: metrics 127.0.0.1:{port}\n" in place.fault("check")
+        finally:
+            os.close(held)
+    assert f"right: metrics 127.0.0.1:{port}\n" in place.fault("check")
+    place.config.write_text(f'{told}[metrics]\nhost = "256.0.0.1"\n')
+    assert "wrong: metrics 256.0.0.1:9101: they can't be served: " in place.fault("check")
+
+
+def test_a_disk_that_is_full(place: Place, monkeypatch: pytest.MonkeyPatch) -> None:
+    """A command for which there is no room says so of itself, and nothing of sessions and lines, which it has none of."""
+    place.said("add", ADDRESS, "--own", OWN, given=KEY)
+
+    def full(*_: object) -> int:
+        fault = sqlite3.OperationalError("database or disk is full")
+        fault.sqlite_errorname = "SQLITE_FULL"
+        raise fault
+    monkeypatch.setattr(backup, "back_up", full)
+    said = place.fault("backup", str(place.folder / "copy"))
+    assert said.endswith("wmbus-service: backup: the database: database or disk is full; make room on its disk; nothing was done\n")
 
 
 @pytest.mark.parametrize("words, wanted", [(["status"], "K\\xfcche \\u0141"), (["status", "--json"], '"K\\u00fcche \\u0141"'),

@@ -23,7 +23,7 @@ from wmbus_service.commands import put_command
 from wmbus_service.config import Config, Metrics, Mqtt, Programs
 from wmbus_service.ending import Ending
 from wmbus_service.page import looks
-from wmbus_service.publications import announce_anew
+from wmbus_service.publications import announce_anew, template_of
 from wmbus_service.sensors import KINDS, kind_of, shown
 from wmbus_service.trouble import Trouble
 
@@ -407,9 +407,22 @@ def test_sensors_members(house: House, mosquitto: Mosquitto) -> None:
     (told,) = served.heard(topic)
     assert told.keys() <= MEMBERS
     assert told["device_class"] == "water" and told["unit_of_measurement"] == "m³" and told["state_class"] == "total_increasing"
-    assert told["state_topic"] == f"wmbus/meter/{meter.name}" and told["value_template"] == "{{ value_json.volume }}"
+    assert told["state_topic"] == f"wmbus/meter/{meter.name}" and told["value_template"] == "{{ value_json.volume | default('') }}"
     assert served.heard(str(told["state_topic"]))[0]["volume"] == 0.001
     served.end()
+
+
+@pytest.mark.parametrize("quantity, unit, value, wanted", [("volume", "m3", 7.5, ""), ("date", "-", "2026-01-31", "2025-12-31"),
+                                                           ("errorflags", "-", "0", "2025-12-31")])
+def test_messages_without_a_value(quantity: str, unit: str, value: object, wanted: str) -> None:
+    """A meter that sends several kinds of messages by turns leaves the values of the others as they are: a number is empty there, which Home
+    Assistant passes over, anything else is what it was, and no template has a name that isn't there."""
+    jinja2 = pytest.importorskip("jinja2")
+    kind = kind_of("9315010000000107", {"quantity": quantity, "unit": unit})
+    assert kind
+    template = jinja2.Environment(undefined=jinja2.StrictUndefined).from_string(template_of(quantity, kind))
+    assert template.render(value_json={quantity: value}, this={"state": "2025-12-31"}) == str(value)
+    assert template.render(value_json={"other": 1}, this={"state": "2025-12-31"}) == wanted
 
 
 def test_a_meter_that_changes_its_unit(house: House) -> None:
@@ -428,8 +441,8 @@ def test_a_meter_that_changes_its_unit(house: House) -> None:
             told += [(topic, it["unit_of_measurement"], it["value_template"])] if topic.endswith("config") else [
                 (topic, it.get("energy"), it.get("energy_MJ"))]
         house.database.execute("delete from publication")
-    energy = (f"{place}/energy/config", "kWh", "{{ value_json.energy }}")
-    joules = (f"{place}/energy_MJ/config", "MJ", "{{ value_json.energy_MJ }}")
+    energy = (f"{place}/energy/config", "kWh", "{{ value_json.energy | default('') }}")
+    joules = (f"{place}/energy_MJ/config", "MJ", "{{ value_json.energy_MJ | default('') }}")
     topic = f"wmbus/meter/{meter.name}"
     assert told == [energy, (topic, 7, None), joules, (topic, None, 25), (topic, 8, 29), joules, (topic.replace("wmbus", "other", 1), None, 32)]
 
@@ -478,6 +491,16 @@ def test_password_and_tls(tmp_path: Path, house: House) -> None:
     mosquitto.end()
     with pytest.raises(Trouble, match="can't be used"):
         broker.try_connection(told)
+
+
+def test_a_broker_that_refuses_the_user(tmp_path: Path, house: House) -> None:
+    """Where the broker lets a user not in, `check` says that it is for its rights, and not that nobody listens at its port."""
+    mosquitto = Mosquitto(tmp_path / "broker", "allow_anonymous false\n")
+    try:
+        with pytest.raises(Trouble, match="the broker refuses the connection: not authorised; look at its"):
+            broker.try_connection(Mqtt(port=mosquitto.port))
+    finally:
+        mosquitto.end()
 
 
 def test_password_in_another_encoding(tmp_path: Path, house: House) -> None:

@@ -24,6 +24,7 @@ from wmbus_service.commandline import main
 from wmbus_service.commands import put_command
 from wmbus_service.config import Config, Keep, Programs, Receiver
 from wmbus_service.ending import Ending
+from wmbus_service.page import looks
 from wmbus_service.service import Service
 from wmbus_service.trouble import Trouble
 
@@ -69,6 +70,24 @@ def test_disk_full(house: House, caplog: pytest.LogCaptureFixture) -> None:
     while served.turn():
         pass
     assert len(house.all("select id from reading")) == 300
+
+
+def test_trouble_that_is_over(house: House, monkeypatch: pytest.MonkeyPatch, caplog: pytest.LogCaptureFixture) -> None:
+    """What was wrong is the last that the log says of it only as long as it is so: once a session was committed it says that they go on."""
+    caplog.set_level("INFO", "wmbus")
+    served, left = Service(house.config, house.database), [Trouble("the disk", "it is full")] * 2
+    monkeypatch.setattr(service, "LEAST_PAUSE", 0.01)
+
+    def turn() -> int:
+        if left:
+            raise left.pop()
+        if served.trouble == "":
+            served.ending.set()
+        return 1
+    monkeypatch.setattr(served, "turn", turn)
+    served.config = replace(house.config, interval=0.01)
+    served.run()
+    assert [record.getMessage() for record in caplog.records] == ["the disk: it is full", "sessions go on"]
 
 
 @as_root
@@ -233,6 +252,39 @@ def test_two_services(tmp_path: Path) -> None:
     os.close(service.lock(tmp_path / "wmbus"))
 
 
+def test_sessions_that_stand_still(house: House) -> None:
+    """Where the service runs and none of its sessions can be committed, as on a full disk, page and `status` say so; and nothing of it once
+    they go on."""
+    held = service.lock(house.config.folder)
+    running = Service(house.config, house.database)
+
+    def told() -> list[str]:
+        now = time.time()
+        found = [it.to_do for it in looks.all_looks(house.config, house.database, [], [], now) if it.what == "stands still"]
+        return found + [line for line in status.status(house.config, False).split("\n") if "no session" in line]
+    try:
+        running.turn()
+        assert told() == []
+        os.utime(house.config.folder / "lock", (0, time.time() - 2410))
+        # (one of before, which notes nothing, isn't told of)
+        assert told() == []
+        os.write(held, b"noted")
+        os.utime(house.config.folder / "lock", (0, time.time() - 2410))
+        assert told() == ["It runs, and has had no session for 40 minutes. Its log says why.",
+                          "it has had no session for 40 minutes: journalctl -u wmbus says why"]
+        running.noted_at = 0.0
+        house.spool(house.whole(house.meters[0]))
+        house.database.execute("create temp trigger full before insert on reading begin select raise(abort, 'full'); end")
+        with pytest.raises(sqlite3.Error):
+            running.turn()
+        assert len(told()) == 2
+        house.database.execute("drop trigger full")
+        running.turn()
+        assert told() == []
+    finally:
+        os.close(held)
+
+
 def test_what_systemd_is_told(house: House, tmp_path: Path, monkeypatch: pytest.MonkeyPatch) -> None:
     """It tells when it is ready, that it lives, and that it ends; SIGTERM ends it, once its session is committed."""
     with socket.socket(socket.AF_UNIX, socket.SOCK_DGRAM) as told:
@@ -244,6 +296,7 @@ def test_what_systemd_is_told(house: House, tmp_path: Path, monkeypatch: pytest.
         child = Child(tmp_path / "log", lambda: service.run(house.config))
         assert [told.recv(100), told.recv(100)] == [b"READY=1", b"WATCHDOG=1"]
         assert service.is_locked(house.config.folder)
+        assert service.still_seconds(house.config.folder, time.time() + 3600) > 3000
         assert child.end(signal.SIGTERM) == 0
         last = told.recv(100)
         while last == b"WATCHDOG=1":

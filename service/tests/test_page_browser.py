@@ -96,6 +96,17 @@ for (const it of document.querySelectorAll("h1, h2, h3, h4, h5, h6")) {
 if (document.querySelectorAll("h1").length !== 1 || !document.title || !document.documentElement.lang) found.push("no head");
 return found;"""
 
+# numbers of the list of meters that go on in the next line: half of one is read as another one
+BROKEN = """
+const found = [];
+for (const it of document.querySelectorAll(".meters td.number")) {
+  const number = document.createRange();
+  number.setStart(it.firstChild, 0);
+  number.setEnd(it.firstChild, it.firstChild.data.lastIndexOf(" "));
+  if (new Set([...number.getClientRects()].map(line => Math.round(line.top))).size > 1) found.push(it.firstChild.data);
+}
+return found;"""
+
 
 def fill(page: PageHouse) -> None:
     """A house with all that a page may show."""
@@ -181,6 +192,20 @@ def test_widths_and_colours(page: PageHouse, address: str, browser: Any) -> None
                     Path(pictures, f"{name}-{width}-{scheme}.png").write_bytes(b64decode(shot["data"]))
     assert not faults, json.dumps({str(key): value for key, value in faults.items()}, indent=1)
     assert not [entry for entry in browser.get_log("browser") if "script" in entry["message"].lower()]
+
+
+@pytest.mark.parametrize("width", [390, 560, 640, 768, 1400])
+def test_numbers_stay_whole(page: PageHouse, address: str, browser: Any, width: int) -> None:
+    """In the list of meters no number goes on in the next line, however long the names beside it are, also in a window that is zoomed."""
+    page.write("update meter set name = ?", "Wasserzähler Küche Müllerstraße 12, drittes Obergeschoß links, Wohnung Nr. 0815")
+    page.write("delete from record")
+    for meter in page.addresses:
+        page.volume(meter, NOW - 60, 1_234_567_890)
+    browser.execute_cdp_cmd("Emulation.setDeviceMetricsOverride", {"width": width, "height": 900, "deviceScaleFactor": 1, "mobile": False})
+    browser.get(address)
+    numbers = browser.execute_script("return [...document.querySelectorAll('.meters td.number')].map(it => it.firstChild.data)")
+    assert numbers == ["1\u202f234\u202f567.890 m³"] * 3
+    assert browser.execute_script(BROKEN) == [] and browser.execute_script(OVERFLOWS) == []
 
 
 def test_walk_through_the_forms(page: PageHouse, address: str, browser: Any) -> None:

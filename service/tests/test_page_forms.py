@@ -83,6 +83,16 @@ def test_add_a_stranger(page: PageHouse) -> None:
     assert page.house.all(f"select block from meter where address = '{STRANGER}'") == [f"meter {STRANGER} 7 {KEY} - - 0 0\n"]
 
 
+def test_a_key_in_groups(page: PageHouse) -> None:
+    """A stranger's key is taken as lists of keys have it, with colons or hyphens between its digits too."""
+    page.write("insert into stranger values (?, 50, 'attic', ?)", STRANGER, NOW)
+    client, word = entered(page.page(TOKEN))
+    given = "0x" + ":".join(KEY[start:start + 2] for start in range(0, 32, 2)).upper()
+    told = client.post("/strangers/add", data={"forms": word, "address": STRANGER, "mode": "5", "key": given})
+    assert told.status_code == 303
+    assert page.house.all(f"select block from meter where address = '{STRANGER}'") == [f"meter {STRANGER} 5 {KEY} - - 0 0\n"]
+
+
 def test_faulty_forms(page: PageHouse) -> None:
     """Each faulty field is told in words, and changes nothing; no line of a roster is smuggled in."""
     address = page.addresses[0]

@@ -81,6 +81,23 @@ def test_stick_with_culfw(tmp_path: Path) -> None:
     heard.judge()
 
 
+def test_a_stick_that_another_receiver_has(monkeypatch: pytest.MonkeyPatch, capsys: pytest.CaptureFixture[str]) -> None:
+    """Of two who read a stick, as its unit and somebody who tries it, each would get a part of the telegrams: the second one says so, and
+    takes nothing of what the stick says."""
+    serial = pytest.importorskip("serial")
+    from wmbus_service import culfw
+    ours, theirs = pty.openpty()
+    tty.setraw(ours)
+    device = os.ttyname(theirs)
+    with serial.Serial(device, culfw.SPEED, exclusive=True):
+        def read(*_: object) -> bytes:
+            raise OSError("it is read all the same")
+        monkeypatch.setattr(serial.Serial, "read", read)
+        assert culfw.main([device]) == 1
+    said = capsys.readouterr().err
+    assert device in said and "lock" in said and "all the same" not in said
+
+
 class EndlessLine:
     """A port at which so much comes without an end of a line, until it is gone."""
 

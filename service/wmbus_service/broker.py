@@ -145,9 +145,15 @@ def _connect(told: Mqtt, client: mqtt.Client) -> None:
         raise Lost(mqtt.error_string(status))
     # (else each small message waits for the answer to the one before it)
     client.socket().setsockopt(socket.IPPROTO_TCP, socket.TCP_NODELAY, 1)
-    _until(client, lambda: len(answers), 1)
+    try:
+        _until(client, lambda: len(answers), 1)
+    except Lost:
+        # (of a refusal the client itself says no more than that there was one)
+        if not any(answers):
+            raise
     if answers[0]:
-        raise Lost(f"the broker refuses the connection: {mqtt.connack_string(answers[0])}")
+        why = mqtt.connack_string(answers[0]).removeprefix("Connection Refused: ").rstrip(".")
+        raise Lost(f"the broker refuses the connection: {why}")
 
 
 def _password_of(path: str) -> str:

@@ -14,8 +14,8 @@ from contextlib import closing, suppress
 from dataclasses import dataclass, replace
 from pathlib import Path
 
-from . import meters, store
-from .config import Config, Mqtt, Page, Receiver, unproved_words, words_of
+from . import meters, service, store
+from .config import Config, Metrics, Mqtt, Page, Receiver, unproved_words, words_of
 from .receiving import PROFILES, feed_of
 from .steps import ProgramFailed, output_of, run_steps, state_text
 from .trouble import Trouble
@@ -50,7 +50,12 @@ def check(config: Config) -> Iterator[Finding]:
     """Looks at everything, one after the other."""
     yield tried(f"folder {config.folder}", lambda: store.prepare_folder(config.folder))
     yield tried(f"room on the disk of {config.folder}", lambda: look_at_room(config.folder))
-    if config.database.exists():
+    for name, path in paths_of(config):
+        if path and not path.startswith("/"):
+            # (found from the folder in which somebody checks it, and not by the units, which begin in that of the root)
+            yield tried(name, lambda name=name: refuse_path(name))  # type: ignore[misc]
+    # (who may not look into the folder is told so of the folder, and of the rest what can be told)
+    if os.path.exists(config.database):
         yield tried(f"database {config.database}", lambda: store.open_store(config.database).close())
     found = tried(f"program {config.programs.steps}", lambda: look_at_steps(config))
     yield replace(found, note=unproved_words(config.programs.steps))
@@ -67,6 +72,8 @@ def check(config: Config) -> Iterator[Finding]:
         yield tried(f"downlinks of {name}", lambda name=name, told=told: look_at_downlinks(name, told))  # type: ignore[misc]
     if config.mqtt:
         yield tried(f"MQTT broker {config.mqtt.host}:{config.mqtt.port}", lambda: look_at_broker(config, config.mqtt))
+    if config.metrics:
+        yield tried(f"metrics {config.metrics.host}:{config.metrics.port}", lambda: look_at_metrics(config, config.metrics))
     if config.page:
         yield tried(f"page {config.page.host}:{config.page.port}", lambda: look_at_page(config.page))
 
@@ -79,6 +86,22 @@ def tried(name: str, look: Callable[[], object]) -> Finding:
         told = store.trouble_of(name, fault) if isinstance(fault, sqlite3.Error) else fault
         return Finding(name, str(told) if isinstance(told, Trouble) else f"{name}: {told}")
     return Finding(name)
+
+
+def paths_of(config: Config) -> Iterator[tuple[str, str]]:
+    """The files that a configuration names beside its folder, each with its setting."""
+    yield "roster", config.roster
+    for name, told in config.receivers.items():
+        yield from ((f"receivers.{name}.{word}", getattr(told, word)) for word in ("device", "file", "downlinks"))
+    if config.mqtt:
+        yield from (("mqtt.password_file", config.mqtt.password_file), ("mqtt.authority", config.mqtt.authority))
+    if config.page:
+        yield from ((f"page.{word}", getattr(config.page, word)) for word in ("token_file", "certificate", "key"))
+
+
+def refuse_path(name: str) -> None:
+    """A path that is another one wherever somebody stands."""
+    raise Trouble(name, "it isn't a path from the root on, and the units look for it elsewhere than you do here", "write its whole path")
 
 
 def look_at_room(folder: Path) -> None:
@@ -205,6 +228,13 @@ def look_at_broker(config: Config, told: Mqtt | None) -> None:
     from .broker import try_connection
     assert told
     try_connection(told)
+
+
+def look_at_metrics(config: Config, told: Metrics | None) -> None:
+    """Whether the metrics can be served, without which the service doesn't start."""
+    from . import metrics
+    assert told
+    metrics.look_at_metrics(told, service.is_locked(config.folder))
 
 
 def look_at_page(told: Page | None) -> None:

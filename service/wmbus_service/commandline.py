@@ -16,7 +16,7 @@ from contextlib import closing
 from pathlib import Path
 
 from . import backup, checking, demo, exporting, importing, key_lists, meters, service, store
-from .commands import cancel_command, put_command, put_key
+from .commands import cancel_command, joined, put_command, put_key
 from .config import Config, Page, Programs, read_config, words_of
 from .printing import leave_unread, open_streams, parsed
 from .publications import Publications
@@ -46,7 +46,7 @@ def main(given: list[str]) -> int:
     except Trouble as trouble:
         said = str(trouble)
     except sqlite3.Error as fault:
-        said = str(store.trouble_of(Path("the database"), fault))
+        said = str(store.trouble_of(asked.command, fault, "nothing was done"))
     except ImportError as fault:
         said = f"{fault}; docs/SERVICE.md names the packages of Debian that it wants"
     except BrokenPipeError:
@@ -74,14 +74,14 @@ def words() -> argparse.ArgumentParser:
 
     def command(name: str, work: Callable[[argparse.Namespace], int], told: str) -> argparse.ArgumentParser:
         made = kinds.add_parser(name, help=told, description=told, epilog=STATUSES)
-        made.set_defaults(work=work)
+        made.set_defaults(work=work, command=name)
         return made
 
     command("run", _run, "runs the service until it gets SIGTERM or SIGINT")
     command("receive", _receive, "feeds the spool from a receiver").add_argument("name", metavar="NAME",
                                                                                  help="the receiver's name in the configuration")
     command("page", _page, "serves the page that people look at, until it gets SIGTERM or SIGINT")
-    command("check", _check, "looks at configuration, rights, programs, meters, receivers, broker and page, and says what is wrong")
+    command("check", _check, "looks at configuration, rights, programs, meters, receivers, broker, metrics and page, and says what is wrong")
     made = command("status", _status, "says what was heard and what somebody should look at")
     made.add_argument("--json", action="store_true", help="as data")
     _meter_words(command)
@@ -110,6 +110,7 @@ def _meter_words(command: Command) -> None:
     made.add_argument("--own", metavar="ADDRESS", help="the collector's own address, with the first meters")
     made = command("correct", _correct, "gives a meter another key in the place of its own, which was wrong; it is asked for as with `add`")
     made.add_argument("address", metavar="METER", type=_text)
+    made.add_argument("--mode", choices=MODES, help="its security mode too, where that was wrong")
     made = command("rekey", _rekey, "gives a meter of mode 7 its new second key, which is asked for as with `add`")
     made.add_argument("address", metavar="METER", type=_text)
 
@@ -265,7 +266,7 @@ def _secret(what: str) -> str:
 
 
 def _key(address: str) -> str:
-    return _secret(f"key of {address}").strip().lower().replace(" ", "")
+    return joined(_secret(f"key of {address}"))
 
 
 def _key_of(address: str) -> str:
@@ -289,8 +290,8 @@ def _correct(asked: argparse.Namespace) -> int:
     config, address = _config(asked), asked.address.lower()
     with _opened(config) as database:
         meters.judge_known(database, address, f"meter {address}")
-        meters.correct_key(config, database, address, _key_of(address))
-    print(f"meter {address} has another key")
+        meters.correct_key(config, database, address, _key_of(address), asked.mode)
+    print(f"meter {address} has another key" + (f", in mode {asked.mode}" if asked.mode else ""))
     return DONE
 
 

@@ -32,6 +32,11 @@ def payload_of(ident: str, payload: str) -> str:
     return payload.lower()
 
 
+def joined(text: str) -> str:
+    """Hexadecimal digits as people have them of labels, mails and lists: in groups, with 0x in front, in large letters."""
+    return re.sub(r"[\s:_-]", "", text).lower().removeprefix("0x")
+
+
 def key_of(place: str, key: str) -> str:
     """A new key, in lower case."""
     if not KEY.fullmatch(key.lower()):

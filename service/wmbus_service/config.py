@@ -210,8 +210,8 @@ def read_settings(path: Path, wanted: Any, document: str) -> object:
         # (editors on Windows put a mark in front)
         told = tomllib.loads(path.read_text(encoding="utf-8-sig"))
     except OSError as fault:
-        raise Trouble(path, f"the configuration can't be read: {fault.strerror}",
-                      "name it with --config, or give this user the right to read it") from None
+        remedy = "start it with sudo, or as the service's user" if isinstance(fault, PermissionError) else "name it with --config"
+        raise Trouble(path, f"the configuration can't be read: {fault.strerror}", remedy) from None
     except (tomllib.TOMLDecodeError, UnicodeDecodeError) as fault:
         raise Trouble(path, f"it is no TOML: {fault}", f"{document} has a whole example") from None
     try:

@@ -13,7 +13,8 @@ MODES = ("brt", "brs", "brc")
 
 def read(device: str, mode: str) -> None:
     """Prints what the stick says until its port ends."""
-    with serial.Serial(device, SPEED, timeout=1) as port:
+    # (two who read a port would each get a part of what the stick says)
+    with serial.Serial(device, SPEED, timeout=1, exclusive=True) as port:
         # (X21 has each telegram come with its link quality, which line_feed leaves out)
         port.write(f"X21\r\n{mode}\r\n".encode())
         port.flush()

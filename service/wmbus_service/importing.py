@@ -11,6 +11,7 @@ from pathlib import Path
 
 from . import key_lists, store
 from .asking import Database
+from .commands import joined
 from .config import Config, words_of
 from .key_lists import Row
 from .meters import KEY_PLACE, name_of, take_roster
@@ -112,7 +113,7 @@ def _line_of(row: Row, wish: Wish) -> str:
 
 def _digits(row: Row, name: str, count: int) -> str:
     """A field of so many hexadecimal digits, which may stand in groups and in large letters."""
-    text = re.sub(r"[\s:_-]", "", row.fields.get(name, "")).lower().removeprefix("0x")
+    text = joined(row.fields.get(name, ""))
     if ROUNDED.fullmatch(text):
         raise Faulty(row, name, "a spreadsheet made a number of it, and digits are gone: have the column be text, and enter it anew")
     if not re.fullmatch("[0-9a-f]*", text):

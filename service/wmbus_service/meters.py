@@ -13,7 +13,7 @@ from .trouble import Trouble
 
 log = logging.getLogger("wmbus")
 
-KEY_PLACE, OTHER_PLACE, DOWN_PLACE = 3, 4, 6
+MODE_PLACE, KEY_PLACE, OTHER_PLACE, LAST_PLACE, DOWN_PLACE = 2, 3, 4, 5, 6
 MOST_NAME = 80
 # a roster that the program judges has so many meters at most
 PIECE = 4096
@@ -137,12 +137,27 @@ def with_key(program: Sequence[str], own: str, block: str, key: str, place: obje
     return f"{line}\n{rest}"
 
 
-def correct_key(config: Config, database: sqlite3.Connection, address: str, key: str) -> None:
-    """Gives a meter another key. What was refused under the one before is told no more."""
+def with_mode(block: str, mode: str, place: object) -> str:
+    """A meter's block with another security mode, in which the numbers of the one before count nothing. All else stays, its downlink
+    counter first."""
+    line, _, rest = block.partition("\n")
+    fields = line.split(" ")
+    if fields[MODE_PLACE] == mode:
+        return block
+    if fields[MODE_PLACE] == "7" and fields[LAST_PLACE] != "-":
+        # (back in mode 7, under the same key, all that it ever sent could come again)
+        raise Trouble(place, "messages of mode 7 were stored of it, and it stays in this mode", "leave out --mode")
+    fields[MODE_PLACE], fields[OTHER_PLACE], fields[LAST_PLACE] = mode, "-", "-"
+    return f"{' '.join(fields)}\n{rest}"
+
+
+def correct_key(config: Config, database: sqlite3.Connection, address: str, key: str, mode: str | None = None) -> None:
+    """Gives a meter another key, and another mode where one is named. What was refused under those before is told no more."""
     place = f"meter {address}"
     with store.transaction(database):
         judge_known(database, address, place)
         (block,) = database.execute("select block from meter where address = ?", (address,)).fetchone()
+        block = with_mode(block, mode, place) if mode else block
         block = with_key(words_of(config.programs.steps), store.setting(database, "own") or "", block, key, place)
         database.execute("update meter set block = ? where address = ?", (block, address))
         database.execute("delete from refusal where address = ?", (address,))

@@ -122,11 +122,32 @@ class Server(ThreadingMixIn, WSGIServer):
             request.shutdown(socket.SHUT_RDWR)
 
 
+def family_of(told: Metrics) -> socket.AddressFamily:
+    """The family of the address at which they are."""
+    return socket.getaddrinfo(told.host, told.port, type=socket.SOCK_STREAM)[0][0]
+
+
+def look_at_metrics(told: Metrics, is_served: bool) -> None:
+    """An address at which they can't be served; where the service serves them its port is taken."""
+    try:
+        with socket.socket(family_of(told)) as tried:
+            tried.setsockopt(socket.SOL_SOCKET, socket.SO_REUSEADDR, 1)
+            if not is_served:
+                tried.bind((told.host, told.port))
+    except (OSError, OverflowError, UnicodeError) as fault:
+        raise trouble_of(told, fault) from None
+
+
+def trouble_of(told: Metrics, fault: Exception) -> Trouble:
+    """Why they can't be served."""
+    return Trouble(f"metrics {told.host}:{told.port}", f"they can't be served: {fault}", "name another host or port under [metrics]")
+
+
 def serve_figures(told: Metrics, registry: CollectorRegistry) -> None:
     """Shows metrics at an address of any family."""
     class OfFamily(Server):
         """A server of that family."""
-    OfFamily.address_family = socket.getaddrinfo(told.host, told.port, type=socket.SOCK_STREAM)[0][0]
+    OfFamily.address_family = family_of(told)
     server = make_server(told.host, told.port, make_wsgi_app(registry), OfFamily, Asked)
     threading.Thread(target=server.serve_forever, name="metrics", daemon=True).start()
 
@@ -138,5 +159,4 @@ def serve(config: Config, told: Metrics, service: Service) -> None:
     try:
         serve_figures(told, registry)
     except (OSError, OverflowError, UnicodeError) as fault:
-        raise Trouble(f"metrics {told.host}:{told.port}", f"they can't be served: {fault}",
-                      "name another host or port under [metrics]") from None
+        raise trouble_of(told, fault) from None

@@ -15,6 +15,8 @@ log = logging.getLogger("wmbus")
 
 # a hundredth more than may be waits at times, so that not each session looks
 SHARE = 100
+# rises where sensors are told of in another way
+TOLD = 2
 
 
 class Publications:
@@ -116,19 +118,25 @@ class Waiting:
 
 def announce_anew(mqtt: Mqtt, database: sqlite3.Connection) -> None:
     """Where the broker or the topics aren't those of the last start sensors are told of once more: another broker knows none, and those of
-    other topics look where nothing comes any more."""
+    other topics look where nothing comes any more. The same where a release tells otherwise of them."""
     with transaction(database):
-        told = json.dumps([mqtt.host, mqtt.port, mqtt.topic, mqtt.discovery])
+        told = json.dumps([mqtt.host, mqtt.port, mqtt.topic, mqtt.discovery, TOLD])
         if setting(database, "topics") != told:
             database.execute("update announced set told = 0")
             set_setting(database, "topics", told)
+
+
+def template_of(name: str, kind: Kind) -> str:
+    """Where a message of the meter has no such value, as where it sends several kinds by turns, the sensor stays as it is: Home Assistant
+    passes over an empty number, and nothing else that is empty ("MQTT", "Value templates")."""
+    return "{{ value_json." + name + " | default(" + ("''" if kind.state else "this.state") + ") }}"
 
 
 def sensor(mqtt: Mqtt, address: str, label: str, name: str, record: dict[str, Any], kind: Kind) -> dict[str, Any]:
     """A sensor as Home Assistant's MQTT discovery takes it."""
     told: dict[str, Any] = {
         "name": name.replace("_", " "), "unique_id": f"wmbus_{address}_{name}", "object_id": f"wmbus_{address}_{name}",
-        "state_topic": f"{mqtt.topic}/meter/{address}", "value_template": "{{ value_json." + name + " }}",
+        "state_topic": f"{mqtt.topic}/meter/{address}", "value_template": template_of(name, kind),
         "availability_topic": f"{mqtt.topic}/status",
         "device": {"identifiers": [f"wmbus_{address}"], "name": label, "serial_number": address},
         "origin": {"name": "wmbus"},

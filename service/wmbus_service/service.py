@@ -31,6 +31,8 @@ LEFT, MOST_LEFT = 0.05, 0.11
 ALIVE = 60.0
 # so often it is looked for what is kept no longer
 LET_GO = 3600.0
+# so often it is noted that sessions go on, and behind so long a time without a note it is told that they don't
+NOTED, STILL = 60.0, 600.0
 
 
 def lock(folder: Path, kind: int = fcntl.LOCK_EX) -> int:
@@ -66,6 +68,22 @@ def is_locked(folder: Path) -> bool:
     return False
 
 
+def note_session(folder: Path) -> None:
+    """Notes that sessions go on, for who looks at the folder alone: by the time of the lock, which a full disk takes too."""
+    with suppress(OSError):
+        os.utime(folder / "lock")
+
+
+def still_seconds(folder: Path, now: float) -> float:
+    """For how long the service that runs has had no session, where that is long."""
+    try:
+        told = (folder / "lock").stat()
+    except FileNotFoundError:
+        return 0.0
+    # (one that was started before an upgrade may note nothing)
+    return now - told.st_mtime if told.st_size and now - told.st_mtime > STILL else 0.0
+
+
 def notify(text: str) -> None:
     """Tells systemd, where it asked for it and hears it."""
     path = os.environ.get("NOTIFY_SOCKET")
@@ -91,6 +109,7 @@ class Service:
         self.session_made = time.monotonic()
         self.trouble = ""
         self.let_go_at = 0.0
+        self.noted_at = 0.0
         self.ages = retention.Ages(database)
 
     def run(self) -> None:
@@ -101,6 +120,8 @@ class Service:
             watched, began = None, time.monotonic()
             try:
                 count = self.turn()
+                if self.trouble:
+                    log.info("sessions go on")
                 pause, self.trouble = LEAST_PAUSE, ""
                 left = min(LEFT * (time.monotonic() - began), MOST_LEFT)
                 wait = left if count >= MOST // 2 or count >= self.sessions.most else self.config.interval
@@ -127,6 +148,10 @@ class Service:
         count = self.sessions.next(time.time())
         send_downlinks(self.config, self.database, time.time())
         self.session_made = time.monotonic()
+        # (by the clock by which it is looked at)
+        if abs(time.time() - self.noted_at) >= NOTED:
+            note_session(self.config.folder)
+            self.noted_at = time.time()
         self._let_go(1 + count // retention.PIECE)
         return count
 
@@ -153,6 +178,9 @@ def run(config: Config) -> None:
     leave_no_core()
     store.prepare_folder(config.folder)
     held = lock(config.folder)
+    with suppress(OSError):
+        os.pwrite(held, b"its time is that of the last session\n", 0)
+    note_session(config.folder)
     try:
         database = store.open_store(config.database, is_new=True)
         service = Service(config, database)

@@ -27,6 +27,7 @@ def figures(config: Config, database: sqlite3.Connection) -> dict[str, Any]:
     is_running = service.is_locked(config.folder)
     return {
         "running": is_running,
+        "no_session_seconds": round(service.still_seconds(config.folder, now)) if is_running else 0,
         # (where it doesn't run nothing is let go, and no clock does harm)
         "clock_went_forward": round(seconds_behind(database, now)) if is_running else 0,
         "totals": dict(database.execute("select name, value from total order by name").fetchall()),
@@ -89,6 +90,8 @@ def waiting_bytes(config: Config, database: Database) -> int:
 def in_words(told: dict[str, Any]) -> Iterator[str]:
     """The figures line by line."""
     yield "the service runs" if told["running"] else "the service doesn't run: systemctl start wmbus"
+    if told["no_session_seconds"]:
+        yield f"it has had no session for {told['no_session_seconds'] // 60} minutes: journalctl -u wmbus says why"
     if told["clock_went_forward"] > DAY:
         yield went_forward(told["clock_went_forward"])
     totals = told["totals"]

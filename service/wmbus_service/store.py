@@ -13,6 +13,8 @@ from . import schema
 from .trouble import Trouble
 
 PATIENCE = 30.0
+# what a session leaves for which there is no room
+SESSION_UNDONE = "nothing of the session was kept, and its lines stay in the spool"
 
 
 def act_as_owner(folder: Path, user: str = "wmbus") -> None:
@@ -76,10 +78,10 @@ def connect(path: Path) -> sqlite3.Connection:
     return database
 
 
-def trouble_of(path: object, fault: sqlite3.Error) -> Trouble:
-    """A fault of SQLite in words."""
+def trouble_of(path: object, fault: sqlite3.Error, undone: str = SESSION_UNDONE) -> Trouble:
+    """A fault of SQLite in words, with what it left undone where the disk is full."""
     remedies = {
-        "full": "make room on its disk; nothing of the session was kept, and its lines stay in the spool",
+        "full": f"make room on its disk; {undone}",
         "readonly": "the file system or the file is read-only: mount it writable, and look at the owner",
         "locked": "another program holds the database for long: end it",
         "busy": "another program holds the database for long: end it",

@@ -9,7 +9,7 @@ from urllib.parse import urlsplit
 from flask import Blueprint, abort, current_app, flash, redirect, render_template, request, session
 from werkzeug.wrappers import Response
 
-from ..commands import KEY
+from ..commands import KEY, joined
 from ..importing import ADDRESS
 from ..meters import name_of
 from .app import Worded, clock, door_of, may_write, new_ident
@@ -96,7 +96,7 @@ def cancel(address: str) -> Response:
 @forms.post("/strangers/add")
 def add() -> Response:
     """Makes a stranger a meter, by the key that its owner has of its maker."""
-    address, mode, key = _field("address").lower(), _field("mode"), re.sub(r"\s", "", _field("key")).lower()
+    address, mode, key = _field("address").lower(), _field("mode"), joined(_field("key"))
     if not ADDRESS.fullmatch(address) or mode not in MODES:
         raise Worded("A meter's address has sixteen hexadecimal digits, and its security mode is 5 or 7.")
     if not KEY.fullmatch(key):

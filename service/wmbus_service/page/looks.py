@@ -7,7 +7,7 @@ from typing import Any
 
 from ..asking import Database
 from ..config import Config
-from ..service import is_locked
+from ..service import is_locked, still_seconds
 from ..status import oldest_publication, waiting_bytes
 from .radios import Radio
 from .reading import Meter, rows_of, strangers
@@ -123,6 +123,9 @@ def _of_service(config: Config, database: Database, now: float) -> Iterator[Look
     """What keeps the whole service from its work."""
     if not is_locked(config.folder):
         yield Look("bad", "stands still", "The service", "/receivers", "It doesn't run: systemctl start wmbus. Its log says why it ended.")
+    elif still := still_seconds(config.folder, now):
+        yield Look("bad", "stands still", "The service", "/receivers",
+                   f"It runs, and has had no session for {counted(int(still // 60), 'minute', 'minutes')}. Its log says why.")
     if waiting_bytes(config, database) > WAITING_BYTES:
         yield Look("look", "lags", "The service", "/receivers", "Many lines wait in the spool. Its log says whether sessions stand still.")
     if config.mqtt and oldest_publication(database, now) > WAITING_SECONDS:
