@@ -57,7 +57,7 @@ from wmbus_service.store import prepare_folder
 from wmbus_service.trouble import Trouble
 
 from .servers import Both
-from .test_parts import DAY, NOW, Fleet, House, fleet, house
+from .test_parts import DAY, NOW, Fleet, House, fleet, house, set_back
 
 __all__ = ["fleet", "house"]
 LIMIT = 60
@@ -418,11 +418,7 @@ def test_a_restore_that_was_killed(fleet: Fleet, restored: Config, tmp_path: Pat
 
 def test_a_copy_of_the_release_before(fleet: Fleet, restored: Config, tmp_path: Path) -> None:
     """Its counters are raised too, and its tables made this release's."""
-    for change in ("drop schema page cascade", "drop table oddity", "alter table gateway drop column gone",
-                   "alter table meter drop column heard", "create index line_by_age on line (made)",
-                   "create index reading_by_age on reading (made)"):
-        fleet.database.execute(change)
-    store.set_setting(fleet.database, "version", "1")
+    set_back(fleet, 1)
     backup.back_up(fleet.config, tmp_path / "copy")
     assert backup.restore(restored, tmp_path / "copy", 50) == 3
     with store.connect(restored.database) as database:
@@ -563,6 +559,7 @@ def test_how_long_something_waits(fleet: Fleet) -> None:
 def test_late_ticks_of_the_metrics(fleet: Fleet) -> None:
     """They are those that `status` tells of, also over the tables of a release that counted all of them."""
     now = time.time()
+    set_back(fleet, 2)
     fleet.database.execute("create or replace view page.late as select count(*) as count, min(due) as since from public.meter")
     store.init(fleet.config.database)
     fleet.database.execute("update meter set due = %s, gateway = %s where address = %s", (now - 300, fleet.gateway, fleet.meters[0].name))
@@ -574,6 +571,7 @@ def test_late_ticks_of_the_metrics(fleet: Fleet) -> None:
 def test_no_code_of_a_meter_can_be_read(fleet: Fleet) -> None:
     """Access codes, passwords and keys are among the unknown quantities: what was sent of these stands in no view of the page's, nor in those
     of a release that showed it."""
+    set_back(fleet, 2)
     now = store.one(fleet.database, "select pg_get_viewdef('page.record'::regclass)")
     before = re.sub("CASE .* END AS raw", "(e.it ->> 'raw'::text) AS raw", now, flags=re.DOTALL)
     fleet.database.execute(f"create or replace view page.record as {before}")

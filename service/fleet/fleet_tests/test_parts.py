@@ -212,6 +212,18 @@ def fleet(both: Both, tmp_path: Path, request: pytest.FixtureRequest) -> Iterato
         yield fleet
 
 
+def set_back(fleet: Fleet, version: int) -> None:
+    """Has a fleet's tables be those of an earlier version."""
+    for change in ("drop schema page cascade", "drop table oddity", "alter table gateway drop column gone",
+                   "alter table meter drop column heard, drop column retired", "create index line_by_age on line (made)",
+                   "create index reading_by_age on reading (made)") if version == 1 else (
+                       "drop view page.meter", "alter table meter drop column retired",
+                       "create view page.meter as select address, name, gateway as receiver, gateway, heard from public.meter",
+                       "grant select on page.meter to public"):
+        fleet.database.execute(change)
+    store.set_setting(fleet.database, "version", str(version))
+
+
 def test_the_very_next_is_taken(fleet: Fleet) -> None:
     """Of a gateway's messages the very next one is taken, others come again or are asked for; an unknown gateway's are left; where an
     epoch began it is told."""
@@ -418,6 +430,7 @@ def test_the_command_line(fleet: Fleet, tmp_path: Path, capsys: pytest.CaptureFi
     assert fleet_command(paths[0], "command", "0" * 16, "01")[0] == 1
     status, said = fleet_command(paths[0], "status")
     assert status == 0 and said.startswith("6 meters; 0 lines taken")
+    assert fleet_command(paths[0], "retire", meter)[0] == 0
     assert "commands: 1 cancelled, 1 waiting" in said and "never heard" in said
     copy = tmp_path / "copy"
     assert fleet_command(paths[0], "backup", str(copy)) == (0, "")
@@ -427,6 +440,7 @@ def test_the_command_line(fleet: Fleet, tmp_path: Path, capsys: pytest.CaptureFi
     with store.connect(names[1]) as restored:
         downs = {block.split(" ")[6] for (block,) in restored.execute("select block from meter")}
         assert downs == {"50"}
+        assert restored.execute("select address from meter where retired is not null").fetchall() == [(meter,)]
         assert store.pairs(restored, "select id, reason from command") == {"a1": "restored", "a2": None}
 
 

@@ -26,10 +26,11 @@ from tests.processes import until
 from wmbus_fleet import administration, broker, commandline, commands, gateways, store
 from wmbus_fleet.config import Broker, read_config
 from wmbus_fleet.messages import lines_body
+from wmbus_fleet.view.door import FleetDoor
 from wmbus_service.trouble import Trouble
 
 from .servers import Both, Rabbit, Secured
-from .test_parts import Fleet
+from .test_parts import Fleet, set_back
 
 LIVES = 60_000
 
@@ -267,7 +268,7 @@ def test_each_word_has_its_help(capsys: pytest.CaptureFixture[str]) -> None:
         commandline.main(["--help"])
     words = [line.split()[0] for line in capsys.readouterr().out.splitlines() if line.startswith("    ") and line[4] != " "]
     assert {"gateway", "intake", "sessions", "downlinks", "page", "metrics", "demo", "init", "area", "gateways", "remove", "commission",
-            "command", "commands", "correct", "rekey", "status", "backup", "restore"} == set(words)
+            "command", "commands", "correct", "rekey", "retire", "status", "backup", "restore"} == set(words)
     for word in words:
         with pytest.raises(SystemExit) as ended:
             commandline.main([word, "--help"])
@@ -275,20 +276,22 @@ def test_each_word_has_its_help(capsys: pytest.CaptureFixture[str]) -> None:
         assert ended.value.code == 0 and "exit status" in told and len(told.split("\n\n")[1]) > 20, word
 
 
-def test_tables_of_the_release_before(fleet: Fleet) -> None:
+@pytest.mark.parametrize("version", [1, 2])
+def test_tables_of_the_release_before(fleet: Fleet, version: int) -> None:
     """`init` makes of them this one's; a page and parts refuse them until then."""
-    for change in ("drop schema page cascade", "drop table oddity", "alter table gateway drop column gone",
-                   "alter table meter drop column heard", "create index line_by_age on line (made)",
-                   "create index reading_by_age on reading (made)"):
-        fleet.database.execute(change)
-    store.set_setting(fleet.database, "version", "1")
+    set_back(fleet, version)
     fleet.database.execute("insert into reading values (5, %s, 'gw', 1, 77, '', null, false, '[]', 1234)", (fleet.meters[0].name,))
+    if version == 2:
+        fleet.database.execute("update meter set heard = 1234 where address = %s", (fleet.meters[0].name,))
     with pytest.raises(Trouble, match="init"):
         store.connect(fleet.config.database)
+    with pytest.raises(Trouble, match="init"):
+        FleetDoor(fleet.config).opened()
     for _ in range(2):
         store.init(fleet.config.database)
     with store.connect(fleet.config.database) as database:
-        assert store.pairs(database, "select address, heard from page.meter")[fleet.meters[0].name] == 1234
+        assert store.pairs(database, "select address, heard from page.meter where retired is null")[fleet.meters[0].name] == 1234
+        assert store.one(database, "select has_table_privilege('public', 'page.meter', 'select')")
 
 
 def test_a_worker_more_and_less(fleet: Fleet, tmp_path: Path) -> None:

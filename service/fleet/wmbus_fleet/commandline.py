@@ -17,10 +17,11 @@ import psycopg
 from wmbus_service.config import read_config as read_service
 from wmbus_service.ending import Ending
 from wmbus_service.memory_files import leave_no_core
+from wmbus_service.page.shared import counted
 from wmbus_service.printing import leave_unread, parsed
 from wmbus_service.trouble import Trouble
 
-from . import backup, broker, commands, downlinks, gateway, gateways, intake, sessions, store
+from . import backup, broker, commands, downlinks, gateway, gateways, intake, retiring, sessions, store
 from .config import Config, read_config
 from .status import command_words, gateway_words, status
 
@@ -139,6 +140,11 @@ def _operating_words(command: Command) -> None:
     made.add_argument("address", metavar="METER")
     made = command("rekey", _rekey, "gives a meter of mode 7 its new second key, which is asked for, or read from the standard input")
     made.add_argument("address", metavar="METER")
+    made = command("retire", _retire, "says that meters are out of service: nothing of them is missed any more; readings, counters and keys"
+                                      " stay")
+    made.add_argument("meters", metavar="METER", nargs="+", help="an address; - in its place reads addresses, one a line, from the standard"
+                                                                 " input")
+    made.add_argument("--back", action="store_true", help="puts them back into service")
     made = command("backup", _backup, "copies the database, also while the fleet works")
     made.add_argument("file", metavar="FILE", type=Path)
     made = command("restore", _restore, "puts a copy into an empty database, before any part of the fleet is started")
@@ -185,10 +191,12 @@ def _commission(config: Config, asked: argparse.Namespace) -> None:
     with store.connect(config.database) as database:
         if asked.roster == "-":
             # (as a file is read)
-            count = commands.take_roster(config, database, sys.stdin.buffer.read().decode("latin-1"), "the standard input")
+            count, back = commands.take_roster(config, database, sys.stdin.buffer.read().decode("latin-1"), "the standard input")
         else:
-            count = commands.commission(config, database, Path(asked.roster))
+            count, back = commands.commission(config, database, Path(asked.roster))
         print(f"{count} new meters")
+        if back:
+            print(f"{_were(back)} put back into service")
         if asked.names:
             print(f"{commands.put_names(database, asked.names)} names")
 
@@ -259,6 +267,25 @@ def _rekey(config: Config, asked: argparse.Namespace) -> None:
         ident = secrets.token_hex(8)
         commands.put_key(database, ident, asked.address, _key(), time.time())
         print(ident)
+
+
+def _retire(config: Config, asked: argparse.Namespace) -> None:
+    if asked.meters == ["-"]:
+        # (some editors put a sign in front of the first line)
+        given = retiring.lines_in(sys.stdin.buffer.read().decode("utf-8-sig", "replace"))
+    else:
+        given = {address.lower(): f"meter {address}" for address in asked.meters}
+    with store.connect(config.database) as database:
+        changed, waiting = retiring.retire(database, given, None if asked.back else time.time())
+    before = len(given) - changed
+    print(f"{_were(changed)} {'put back into' if asked.back else 'taken out of'} service"
+          + (f", {before} {'was' if before == 1 else 'were'} so before" if before else ""))
+    if waiting and not asked.back:
+        print(f"{counted(waiting, 'of them still has', 'of them still have')} commands that wait: `wmbus-fleet commands METER` names them")
+
+
+def _were(count: int) -> str:
+    return str(counted(count, "meter was", "meters were"))
 
 
 def _status(config: Config, asked: argparse.Namespace) -> None:

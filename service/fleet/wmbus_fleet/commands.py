@@ -12,7 +12,7 @@ from wmbus_service.importing import ADDRESS
 from wmbus_service.meters import PIECE, judge_roster, meters_in, name_of, pieces_of, read_roster, with_key
 from wmbus_service.trouble import Trouble
 
-from . import broker, store
+from . import broker, retiring, store
 from .config import Config
 from .store import Database
 
@@ -53,6 +53,9 @@ def block_of(database: Database, address: str, place: str) -> str:
 def _put(database: Database, ident: str, address: str, kind: str, payload: str, now: float) -> bool:
     judge_ident(ident)
     block_of(database, address, f"command {ident}")
+    if kind == "send" and _is_retired(database, address, ident):
+        raise Trouble(f"command {ident}", f"meter {address} is out of service, and so this one isn't taken",
+                      f"`wmbus-fleet retire --back {address}` puts it back")
     added = database.execute("insert into command (id, address, kind, payload, made, changed) values (%s, %s, %s, %s, %s, %s)"
                              " on conflict do nothing", (ident, address, kind, payload, now, now))
     if added.rowcount:
@@ -62,6 +65,12 @@ def _put(database: Database, ident: str, address: str, kind: str, payload: str, 
                             (ident, address, kind, payload)).fetchone():
         raise Trouble(f"command {ident}", "another command has this id, and so this one isn't taken", "give it an id of its own")
     return False
+
+
+def _is_retired(database: Database, address: str, ident: str) -> bool:
+    """Whether a command would be a new one to a meter that is out of service."""
+    return bool(store.one(database, "select exists (select 1 from meter where address = %s and retired is not null)"
+                                    " and not exists (select 1 from command where id = %s)", (address, ident)))
 
 
 def cancel_command(database: Database, ident: str, now: float) -> str:
@@ -105,17 +114,18 @@ def _judge_name(name: str) -> None:
         raise Trouble(f"the name {name}", "a name has 1 to 64 of a-z, 0-9, _ and -")
 
 
-def commission(config: Config, database: Database, path: Path) -> int:
-    """Adds the new meters of a roster's file, which nobody else may read. How many are new."""
+def commission(config: Config, database: Database, path: Path) -> tuple[int, int]:
+    """Adds the new meters of a roster's file, which nobody else may read. How many are new, and how many came back into service."""
     return take_roster(config, database, read_roster(path), path)
 
 
-def take_roster(config: Config, database: Database, text: str, path: object) -> int:
-    """Adds a roster's new meters; what is known of the others stays. How many are new. A roster may have any number of meters."""
+def take_roster(config: Config, database: Database, text: str, path: object) -> tuple[int, int]:
+    """Adds a roster's new meters; what is known of the others stays, and those that are out of service are put back. How many are new, and
+    how many came back. A roster may have any number of meters."""
     for number, piece in enumerate(pieces_of(text)):
         # (what is said of a line counts from the piece's first one)
         judge_roster(words_of(config.programs.steps), piece, f"{path}, behind its first {number * PIECE} meters" if number else path)
-    added = 0
+    added = back = 0
     for piece in pieces_of(text):
         own, meters = meters_in(piece)
         with store.transaction(database):
@@ -125,7 +135,8 @@ def take_roster(config: Config, database: Database, text: str, path: object) -> 
                               "write that of the database there")
             store.set_setting(database, "own", own)
             added += _add_meters(database, meters)
-    return added
+            back += retiring.mark(database, [fields[1].lower() for fields in meters], None)
+    return added, back
 
 
 def _add_meters(database: Database, meters: Sequence[Sequence[str]]) -> int:

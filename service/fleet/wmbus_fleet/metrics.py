@@ -38,8 +38,9 @@ COUNTERS = {name: words for name, words in OF_SESSIONS.items() if name != "lines
 GAUGES = {
     "lag_seconds": "how long ago the oldest line that waits for a session was heard, by its receiver's clock",
     "inbox_lines": "lines that wait for a session", "meters": "meters that are known",
-    "meters_silent": "meters without a reading for two days",
-    "meters_unheard": "meters that never had a reading", "downlinks_waiting": "downlinks that the broker hasn't got yet",
+    "meters_retired": "meters that are out of service",
+    "meters_silent": "meters in service without a reading for two days",
+    "meters_unheard": "meters in service that never had a reading", "downlinks_waiting": "downlinks that the broker hasn't got yet",
     "downlinks_waiting_seconds": "how long ago the oldest of these was made", "commands_open": "commands that aren't done",
     "commands_open_seconds": "how long ago the oldest of these was put", "downlinks_missed": "downlinks that weren't sent in time",
     "aside_lines": "lines at which the program failed", "gaps": "epochs of gateways that ended with a gap",
@@ -49,7 +50,8 @@ GAUGES = {
 }
 LABELLED = {
     "gateways": ("gateways that are known", "area"), "gateways_silent": ("gateways that weren't heard for ten minutes", "area"),
-    "area_meters": ("meters, by the gateway that heard them last", "area"), "area_refusals": ("refused lines, but for repeats", "area"),
+    "area_meters": ("meters in service, by the gateway that heard them last", "area"),
+    "area_refusals": ("refused lines, but for repeats", "area"),
     "queue_messages": ("messages of an area that wait for an intake", "area"), "workers": ("processes that are connected", "part"),
     "commands": ("commands", "state"), "table_bytes": ("size of a table with its indexes", "table"),
 }
@@ -60,7 +62,8 @@ QUERIES = {
     "gateways_clock_seconds": AHEAD, "downlinks_waiting_seconds": AGES["downlinks"], "commands_open_seconds": AGES["commands"],
 }
 NAMES = {"lag_seconds": "lag", "inbox_lines": "inbox", "meters": "meters", "meters_silent": "silent_meters",
-         "meters_unheard": "unheard_meters", "downlinks_waiting": "downlinks_waiting", "commands_open": "commands"}
+         "meters_retired": "retired", "meters_unheard": "unheard_meters", "downlinks_waiting": "downlinks_waiting",
+         "commands_open": "commands"}
 
 
 @dataclass

@@ -22,9 +22,11 @@ RECORD = """create or replace view page.record as
     from public.reading r cross join lateral json_array_elements(r.records) with ordinality as e (it, place)
     where e.it ->> 'quantity' is not null;"""
 
+METER = "create or replace view page.meter as select address, name, gateway as receiver, gateway, heard, retired from public.meter;"
+
 VIEWS = f"""
 create schema page;
-create view page.meter as select address, name, gateway as receiver, gateway, heard from public.meter;
+{METER}
 create view page.reading as select line as id, line, address, counter, moment, gateway as receiver, made from public.reading;
 {RECORD}
 -- no day's last value outlives its reading here

@@ -1,7 +1,7 @@
 """The fleet's tables in PostgreSQL."""
 from __future__ import annotations
 
-VERSION = 2
+VERSION = 3
 SHARDS = 16
 
 TABLES = f"""
@@ -16,10 +16,10 @@ create table gateway (
 create function shard_of(address text) returns integer immutable language sql
     return ('x' || substr(md5(address), 1, 2))::bit(8)::integer & {SHARDS - 1};
 -- a meter: its part of the program's state, with its key; whether its window waits for an answer, how many fragments are held, when its
--- tick is due, the gateway that heard it last, and when its last reading was written
+-- tick is due, the gateway that heard it last, when its last reading was written, and since when it is out of service
 create table meter (
     address text primary key, name text not null default '', block text not null, waits bigint, holds integer not null default 0,
-    due double precision, gateway text, heard double precision) with (fillfactor = 70);
+    due double precision, gateway text, heard double precision, retired double precision) with (fillfactor = 70);
 create index meter_due on meter (shard_of(address), due) where due is not null;
 -- lines that were taken of gateways and that no session has heard yet
 create sequence inbox_id;
@@ -67,7 +67,7 @@ INBOXES = "".join(
     " with (autovacuum_vacuum_scale_factor = 0, autovacuum_vacuum_threshold = 20000);\n"
     f"create index inbox_{shard}_id on inbox_{shard} (id);\n" for shard in range(SHARDS))
 
-# what makes of version 1 this one
+# what makes of version 1 the second one
 SECOND = """
 drop index line_by_age;
 drop index reading_by_age;
@@ -76,3 +76,6 @@ alter table gateway add column gone timestamptz;
 alter table meter add column heard double precision;
 update meter m set heard = (select r.made from reading r where r.address = m.address order by r.moment desc limit 1);
 """
+
+# what makes of version 2 this one (no row is written anew)
+THIRD = "alter table meter add column retired double precision;"

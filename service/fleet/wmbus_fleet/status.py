@@ -12,6 +12,7 @@ from wmbus_service.page.shared import REPEATS
 
 from . import store
 from .intake import remedy_of
+from .retiring import IS_HEARD, heard_words
 from .store import Database
 
 LAST, MOST = 10, 50
@@ -53,7 +54,8 @@ def figures(database: Database) -> dict[str, Any]:
             select a.name, count(g.name) as gateways, count(g.name) filter (where {IS_SILENT}) as silent
             from area a left join gateway g on g.area = a.name and g.gone is null group by a.name order by a.name"""),
         "refusals_by_area": _rows(database, REFUSALS),
-        "meters": store.one(database, "select count(*) from meter"),
+        **_rows(database, f"select count(*) as meters, count(retired) as retired, count(*) filter (where {IS_HEARD}) as retired_heard,"
+                          f" min(address) filter (where {IS_HEARD}) as retired_first from meter m")[0],
         "inbox": store.one(database, "select count(*) from inbox"),
         "downlinks_waiting": store.one(database, "select count(*) from outbox where sent is null and missed is null"),
         "ages": {name: store.one(database, query) for name, query in AGES.items()},
@@ -91,7 +93,8 @@ def in_words(told: dict[str, Any]) -> Iterator[str]:
     """The figures line by line."""
     totals = told["totals"]
     taken, heard, stored = (totals.get(name, 0) for name in ("lines", "heard", "stored"))
-    yield f"{told['meters']} meters; {taken} lines taken, {heard} heard, {stored} readings"
+    retired = f", {told['retired']} of them out of service" if told["retired"] else ""
+    yield f"{told['meters']} meters{retired}; {taken} lines taken, {heard} heard, {stored} readings"
     ages, waiting = told["ages"], told["downlinks_waiting"]
     yield (f"{told['inbox']} lines wait for a session" + (f", the oldest for {ages['lines']} s" if told["inbox"] else "")
            + f"; {waiting} downlinks for the broker" + (f", the oldest for {ages['downlinks']} s" if waiting else ""))
@@ -123,6 +126,8 @@ def in_words(told: dict[str, Any]) -> Iterator[str]:
         yield f"gateway {it['gateway']} began a new epoch behind message {it['number']} of {it['epoch']}: its later ones may be gone"
     for it in told["downlinks_missed"]:
         yield f"downlink {it['down']} for {it['address']} wasn't sent: {it['missed']}"
+    if told["retired_heard"]:
+        yield f"{heard_words(told['retired_heard'])}, first {told['retired_first']}: `wmbus-fleet retire --back METER` puts one back"
     for it in told["refusals_by_area"]:
         yield f"refused in {it['area'] or 'no area'}: {it['times']} times {it['reason']}, of {it['meters']} meters"
     for it in told["refusals"]:

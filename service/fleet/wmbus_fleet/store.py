@@ -54,14 +54,13 @@ def init(words: str) -> None:
                 look_at_encoding(database)
                 database.execute(schema.TABLES + schema.INBOXES + page_tables.VIEWS)
             elif version == 1:
-                database.execute(schema.SECOND + page_tables.VIEWS)
-            elif version == schema.VERSION:
-                # (the first releases of this version counted ticks that wait too, and showed what meters send of unknown quantities)
-                database.execute(page_tables.LATE + page_tables.RECORD)
-            else:
+                database.execute(schema.SECOND + schema.THIRD + page_tables.VIEWS)
+            elif version == 2:
+                # (its first releases counted ticks that wait too, and showed what meters send of unknown quantities)
+                database.execute(schema.THIRD + page_tables.METER + page_tables.LATE + page_tables.RECORD)
+            elif version != schema.VERSION:
                 raise _of_another(version)
-            if version in (None, 1):
-                set_setting(database, "version", str(schema.VERSION))
+            set_setting(database, "version", str(schema.VERSION))
 
 
 def look_at_encoding(database: Database) -> None:

@@ -4,7 +4,8 @@ from __future__ import annotations
 from typing import Any
 
 from flask import Blueprint, Flask, Response, abort, jsonify, render_template, request
-from wmbus_service.page.app import Worded, clock, create_page, database
+from wmbus_service.page.app import MOST_SHOWN, Worded, clock, create_page, database
+from wmbus_service.page.app import _meter as meter_told
 
 from ..config import Config
 from . import looking
@@ -18,6 +19,8 @@ def create_app(config: Config, token: str | None = None, is_elsewhere: bool = Fa
     """The page over the fleet's database. Without a token it only reads; elsewhere than on this machine reading needs it too."""
     app = create_page(FleetDoor(config), token, is_elsewhere)
     app.register_blueprint(fleet)
+    # (a meter's page is that of the service, and tells of its being out of service)
+    app.view_functions |= {"pages.meter": meter, "pages.api_meter": api_meter}
     return app
 
 
@@ -43,6 +46,16 @@ def meters() -> str:
 def api_meters() -> Response:
     """The same as data."""
     return jsonify(_meters())
+
+
+def meter(address: str) -> str:
+    """A meter."""
+    return render_template("fleet_meter.html", most=MOST_SHOWN, **looking.put_service(database(), meter_told(address)))
+
+
+def api_meter(address: str) -> Response:
+    """All of a meter as data."""
+    return jsonify(looking.put_service(database(), meter_told(address)))
 
 
 def _meters() -> dict[str, Any]:

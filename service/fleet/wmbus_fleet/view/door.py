@@ -47,7 +47,8 @@ class FleetDoor:
         """The database, for reading alone."""
         asked = Asked(self.config.database)
         with suppress(psycopg.Error):
-            if asked.execute("select to_regclass('page.meter') is not null").fetchall() == [(True,)]:
+            # (the last column that this release brought)
+            if asked.execute("select 1 from pg_attribute where attrelid = to_regclass('page.meter') and attname = 'retired'").fetchall():
                 return asked
         asked.close()
         raise Trouble("the database", "it hasn't the fleet's tables of this release", "`wmbus-fleet init` makes them")
@@ -78,7 +79,9 @@ class FleetDoor:
             own = store.setting(database, "own")
             if own is None:
                 raise Trouble("the meter", "the collector's own address isn't known", "`wmbus-fleet commission ROSTER` gives it")
-            if not commands.take_roster(self.config, database, f"wmbus-roster 2\nown {own}\n{line}\n", f"meter {address}"):
+            # (one that is out of service isn't put back by what is refused)
+            if database.execute("select 1 from meter where address = %s", (address,)).fetchone():
                 return False
+            commands.take_roster(self.config, database, f"wmbus-roster 2\nown {own}\n{line}\n", f"meter {address}")
             database.execute("update meter set name = %s where address = %s", (name, address))
             return True

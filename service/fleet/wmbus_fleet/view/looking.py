@@ -12,8 +12,12 @@ from wmbus_service.page.reading import meters_of, rows_of, strangers
 from wmbus_service.page.shared import counted, times
 from wmbus_service.page.views import meter_data
 
+from ..retiring import IS_HEARD, heard_words
 from ..status import IS_REPEAT, PARTS, SILENT, UNITS
 
+# the state of meters that are out of service and were heard since
+RETIRED_HEARD = "retired-heard"
+PUT_BACK = "`wmbus-fleet retire --back METER` puts one back that works after all."
 # so many rows a page, so many things to look at of a kind
 MOST, FEW = 100, 10
 DAY = 86_400.0
@@ -23,9 +27,11 @@ LETTERS = {True: 'collate "C"', False: 'collate "und-x-icu"'}
 # a label's number as it is printed, also in pieces, behind its maker, and as the page itself tells it, with version and device type
 LABEL = re.compile("(?:[A-Za-z]{3} ?)?((?:[0-9][ .-]?){8})(?:[0-9a-fA-F]{2} [0-9a-fA-F]{2})?")
 # (each goes once over the meters, of which there may be a million)
-METERS = """
-select count(*) as meters, count(heard) as read, count(*) filter (where heard < ?) as silent_meters,
-    count(*) filter (where heard is null) as unheard_meters from meter"""
+METERS = f"""
+select count(*) as meters, count(retired) as retired, count(heard) filter (where retired is null) as read,
+    count(*) filter (where heard < ? and retired is null) as silent_meters,
+    count(*) filter (where heard is null and retired is null) as unheard_meters, count(*) filter (where {IS_HEARD}) as retired_heard
+from meter m"""
 COUNTS = {
     "inbox": "select count(*) from inbox",
     "commands": "select count(*) from command where state in ('waiting', 'queued', 'sent')",
@@ -34,7 +40,7 @@ COUNTS = {
 # (what another gateway, or a repeater, brought once more is no trouble of an area's)
 AREAS = f"""
 with heard as (select g.area, count(*) as meters, count(*) filter (where m.heard < ?) as silent_meters
-        from meter m join gateway g on g.name = m.gateway group by g.area),
+        from meter m join gateway g on g.name = m.gateway where m.retired is null group by g.area),
     refused as (select g.area, sum(r.times) as refused
         from refusal r join meter m on m.address = r.address join gateway g on g.name = m.gateway where not {IS_REPEAT} group by g.area),
     sending as (select area, count(*) as gateways, count(*) filter (where seen is null or seen < ?) as silent_gateways
@@ -104,6 +110,8 @@ def _of_parts(running: dict[str, int], told: dict[str, Any], _now: float) -> Ite
     if silent:
         yield Look("look", "silent", counted(silent, "meter", "meters"), "/meters?state=stopped",
                    "Each had a reading, and none for two days.")
+    if told["retired_heard"]:
+        yield Look("look", "out of service", heard_words(told["retired_heard"]), f"/meters?state={RETIRED_HEARD}", PUT_BACK)
 
 
 def _of_gateways(database: Database, told: dict[str, Any], now: float) -> Iterator[Look]:
@@ -150,8 +158,8 @@ def _of_rows(database: Database, now: float) -> Iterator[Look]:
 def gateways(database: Database, now: float, area: str | None, is_silent: bool, after: str, most: int = MOST) -> dict[str, Any]:
     """Gateways by name, of an area or all, the silent ones or all, behind a name."""
     rows = rows_of(database, GATEWAYS, (area, is_silent, now - SILENT, after, most + 1))
-    heard = dict(database.execute("select gateway, count(*) from meter where gateway = any(?) group by gateway",
-                                  ([row["name"] for row in rows],)).fetchall())
+    heard = dict(database.execute("select gateway, count(*) from meter where gateway = any(?) and retired is null"
+                                  " group by gateway", ([row["name"] for row in rows],)).fetchall())
     for row in rows:
         row["meters"] = heard.get(row["name"], 0)
         row["is_silent"] = not row["gone"] and (row["seen"] is None or row["seen"] < now - SILENT)
@@ -167,21 +175,26 @@ def area_page(database: Database, now: float, area: str) -> dict[str, Any] | Non
     return {"refusals": refused, **gateways(database, now, area, False, "")}
 
 
+# (of meters in service, but for the last two)
 STATES = {
     "": "", "silent": " and (m.heard is null or m.heard < {moment})", "stopped": " and m.heard < {moment}", "unread": " and m.heard is null",
     "read": " and m.heard >= {moment}",
     "refused": " and exists (select 1 from refusal r where r.address = m.address and r.last_made > coalesce(m.heard, 0)"
                f" and not {IS_REPEAT})",
+    "retired": " and m.retired is not null", RETIRED_HEARD: f" and {IS_HEARD}",
 }
 
 
 def meters(database: Database, now: float, asked: dict[str, str]) -> dict[str, Any]:
     """The meters that somebody looks for, in the order of their addresses, behind one of them."""
     where, values, order = ["m.address > ?"], [asked["after"]], "m.address"
+    is_in_service = asked["state"] not in ("retired", RETIRED_HEARD)
+    if is_in_service and (asked["state"] or not asked["q"]):
+        where.append("m.retired is null")
     if asked["q"]:
         # (by the index of addresses all meters are fetched one by one, where few are so: PostgreSQL can't know how many have a text)
         order = "m.address || ''"
-        condition, given = _looked_for(asked["q"])
+        condition, given = _looked_for(asked["q"], is_in_service)
         where.append(condition)
         values += given
     if asked["gateway"]:
@@ -190,18 +203,21 @@ def meters(database: Database, now: float, asked: dict[str, str]) -> dict[str, A
     if asked["area"]:
         where.append("m.gateway in (select name from gateway where area = ?)")
         values.append(asked["area"])
-    query = (f"select m.address, m.name, m.receiver from meter m where {' and '.join(where)}"
+    query = (f"select m.address, m.name, m.receiver, m.retired from meter m where {' and '.join(where)}"
              f"{STATES[asked['state']].format(moment=now - METER_SILENCE)} order by {order} limit {MOST + 1}")
     rows = database.execute(query, values).fetchall()
-    found = [meter_data(it) for it in meters_of(database, rows[:MOST], now)]
+    known = meters_of(database, [row[:3] for row in rows[:MOST]], now)
+    found = [meter_data(it) | {"retired": row[3]} for it, row in zip(known, rows)]
     return {"now": now, "asked": asked, "meters": found, "states": list(STATES), "after": rows[MOST - 1][0] if len(rows) > MOST else None,
             "areas": [name for (name,) in database.execute("select name from area order by name").fetchall()]}
 
 
-def _looked_for(text: str) -> tuple[str, list[Any]]:
-    """How a meter is looked for: by a part of its name, the first digits of its address, or the number on its label."""
+def _looked_for(text: str, is_in_service: bool) -> tuple[str, list[Any]]:
+    """How a meter is looked for: by a part of its name, the first digits of its address, or the number on its label. By its name one that
+    is out of service is found among such alone: the one in its place may have the same name."""
     letters = LETTERS[text.isascii()]
-    conditions: list[str] = [f"position(lower(?::text {letters}) in lower(m.name {letters})) > 0"]
+    conditions: list[str] = [f"position(lower(?::text {letters}) in lower(m.name {letters})) > 0"
+                             f"{' and m.retired is null' if is_in_service else ''}"]
     values: list[Any] = [text]
     if re.fullmatch("[0-9a-fA-F]{4,16}", text):
         conditions.append("left(m.address, ?) = ?")
@@ -212,3 +228,13 @@ def _looked_for(text: str) -> tuple[str, list[Any]]:
         conditions.append("substr(m.address, 5, 8) = ?")
         values.append("".join(number[place:place + 2] for place in (6, 4, 2, 0)))
     return f"({' or '.join(conditions)})", values
+
+
+def put_service(database: Database, told: dict[str, Any]) -> dict[str, Any]:
+    """What a meter's page tells, with since when the meter is out of service: nothing of it is missed then."""
+    address = told["meter"]["address"]
+    retired, is_heard = database.execute(f"select retired, {IS_HEARD} from meter m where address = ?", (address,)).fetchone()
+    if retired is not None:
+        heard = Look("look", "out of service", heard_words(1), f"/meters/{address}", PUT_BACK)
+        told["looks"] = [asdict(heard)] if is_heard else []
+    return told | {"retired": retired}
