@@ -9,7 +9,7 @@ from readings.page_texts import is_number
 
 APPLICATION = 0x776D6275
 # (the tables that are read here are the same in all versions up to this one)
-VERSION = 6
+VERSION = 7
 # a value with a greater power of ten has it behind it
 MOST_POWER = 60
 LATE = 6 * 3600

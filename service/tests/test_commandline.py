@@ -18,7 +18,7 @@ from dataclasses import dataclass
 from pathlib import Path
 
 import pytest
-from wmbus_service import backup, config, exporting, meters, service, store
+from wmbus_service import backup, config, exporting, meters, schema, service, store
 from wmbus_service.backup import raise_counters
 from wmbus_service.commandline import main
 from wmbus_service.config import Config, Programs, has_steps, read_config, unproved_words
@@ -450,6 +450,79 @@ def test_copy(place: Place) -> None:
     copy.write_bytes(copy.read_bytes()[:5000])
     assert "isn't whole" in place.fault("restore", str(copy))
     assert f"meter {ADDRESS}" in place.said("status")
+
+
+def test_meters_out_of_service(place: Place) -> None:
+    """Meters out of service are missed no more, all that are named or none, from the first time on. What they send is committed as ever,
+    which is said, and no command is taken for them until they are back."""
+    other, texts = "9315010000000107", []
+    place.said("add", ADDRESS, "--own", OWN, "--name", "cellar", given=KEY)
+    place.said("add", other, given=KEY)
+    place.said("command", ADDRESS, "01", "--id", "before")
+    assert "there is no meter 0000000000000000" in place.fault("retire", other, "0" * 16)
+    assert "no reading yet" in place.said("status") and "out of service" not in place.said("status")
+    assert place.said("retire", ADDRESS.upper(), other, ADDRESS).splitlines() == [
+        f"meter {ADDRESS} is out of service since {time.strftime('%Y-%m-%d')}; 1 command of it still waits: cancel it",
+        f"meter {other} is out of service since {time.strftime('%Y-%m-%d')}"]
+    with closing(open_store(place.folder / "wmbus/wmbus.db")) as database:
+        database.execute("update meter set retired = 1500000000 where address = ?", (ADDRESS,))
+    assert "since 2017-07-1" in place.said("retire", ADDRESS)
+    told = json.loads(place.said("status", "--json"))
+    assert told["meters"] == [] and [(it["address"], it["heard"]) for it in told["retired"]] == [(ADDRESS, None), (other, None)]
+    assert "2 meters are out of service" in place.said("status") and "no reading yet" not in place.said("status")
+    assert f"the meter {ADDRESS} is out of service since 2017-07-1" in place.fault("command", ADDRESS, "02", "--id", "behind")
+    assert "taken before" in place.said("command", ADDRESS, "01", "--id", "before")
+    place.said("correct", ADDRESS, given=KEY)
+    place.said("rekey", ADDRESS, given=KEY[::-1])
+    assert "was heard" not in place.said("status")
+    for is_retired in (True, False):
+        place.hear(recorded())
+        place.said("export", "--state", str(place.folder / f"state{is_retired}"))
+        texts.append((place.said("export", "--meter", ADDRESS), (place.folder / f"state{is_retired}").read_text()))
+        said = f"meter {ADDRESS} cellar was heard though it is out of service since 2017-07-1"
+        assert (said in place.said("status")) == (f"retire --back {ADDRESS}" in place.said("status")) == is_retired
+        place.said("retire", "--back", ADDRESS, other)
+    assert ",8," in texts[0][0] and texts[0][0] == texts[1][0] and f"meter {ADDRESS} 7 {KEY} {KEY[::-1]} 8 " in texts[0][1]
+    assert "command before waits" not in place.said("command", "--cancel", "before")
+    assert place.said("command", ADDRESS, "02", "--id", "behind") == "command behind waits\n"
+    told = json.loads(place.said("status", "--json"))
+    assert [it["address"] for it in told["meters"]] == [ADDRESS, other] and told["retired"] == []
+
+
+def test_a_meter_out_of_service_that_is_added_again(place: Place) -> None:
+    """It is back in service, with the key that it has, which is said; a roster that is read at each start puts none back."""
+    listed, roster = place.folder / "list.csv", place.folder / "roster"
+    place.said("add", ADDRESS, "--own", OWN, given=KEY)
+    for words in (("add", ADDRESS), ("import", str(listed))):
+        listed.write_text(f"address;key\n{ADDRESS};{KEY[::-1]}\n")
+        place.said("retire", ADDRESS)
+        assert ("back in service; its key stays" if words[0] == "add" else "1 were out of service, and are back with the keys"
+                ) in place.said(*words, given=KEY[::-1])
+        assert "out of service" not in place.said("status")
+    assert "known already" in place.fault("add", ADDRESS, given=KEY)
+    place.said("retire", ADDRESS)
+    roster.write_text(f"wmbus-roster 2\nown {OWN}\nmeter {ADDRESS} 7 {KEY} - - 0 0\n")
+    with closing(open_store(place.folder / "wmbus/wmbus.db")) as database:
+        assert not meters.take_roster(read_config(place.config), database, roster.read_text(), roster)
+        assert database.execute("select retired > 0, block from meter").fetchall() == [(1, f"meter {ADDRESS} 7 {KEY} - - 0 0\n")]
+
+
+def test_copies_and_meters_out_of_service(place: Place) -> None:
+    """A copy keeps which meters are out of service; in one of a version before none is."""
+    place.said("add", ADDRESS, "--own", OWN, given=KEY)
+    with place.patches.context() as earlier:
+        earlier.setattr(schema, "MIGRATIONS", schema.MIGRATIONS[:6])
+        earlier.setattr(schema, "VERSION", 6)
+        with closing(open_store(place.folder / "earlier.db", is_new=True)) as database:
+            set_own(database, OWN, "")
+            add_meter(database, f"meter {ADDRESS} 7 {KEY} - - 0 0".split())
+    place.said("retire", ADDRESS)
+    place.said("backup", str(place.folder / "copy.db"))
+    place.said("retire", "--back", ADDRESS)
+    for name, count in (("copy.db", 1), ("earlier.db", 0)):
+        place.said("restore", str(place.folder / name))
+        told = json.loads(place.said("status", "--json"))
+        assert (len(told["retired"]), len(told["meters"])) == (count, 1 - count)
 
 
 def test_commands_that_a_restore_cancels_are_told(place: Place) -> None:

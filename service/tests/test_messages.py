@@ -163,6 +163,16 @@ def test_a_cancellation_under_another_meter(house: House) -> None:
     assert told[1][0] == f"wmbus/commands/{meter}" and json.loads(told[1][1])["state"] == "cancelled"
 
 
+def test_a_command_to_a_meter_out_of_service(house: House) -> None:
+    """It is answered in words, and not taken."""
+    meter = house.meters[0].name
+    house.database.execute("update meter set retired = 1800000000")
+    broker.take_message(Mqtt(), house.database, f"wmbus/command/{meter}", b'{"id": "a", "payload": "01"}')
+    assert not house.all("select id from command")
+    (told,) = house.all("select payload from publication")
+    assert f"the meter {meter} is out of service since 2027-01-1" in json.loads(told)["error"]
+
+
 @pytest.mark.parametrize("text", ["null", "true", "[]", "1.5"])
 def test_an_id_that_is_none(house: House, text: str) -> None:
     """A command under an id that is neither a text nor a number, as a template gives null for what it hasn't, is answered, and not taken:
@@ -597,6 +607,7 @@ def test_metrics(house: House, mosquitto: Mosquitto) -> None:
     """The client library's parser reads the metrics, and they are what was heard."""
     from prometheus_client.parser import text_string_to_metric_families
     served, meter = Served(house, mosquitto), house.meters[0]
+    house.database.execute("update meter set retired = 1 where address = ?", (house.meters[1].name,))
     house.spool(house.whole(meter) + "bad\n" + line_of_nobody())
     until(lambda: len(house.all("select number from line")) == 3)
     assert served.config.metrics
@@ -604,8 +615,8 @@ def test_metrics(house: House, mosquitto: Mosquitto) -> None:
         text = answer.read().decode()
     found = {sample.name: sample.value for family in text_string_to_metric_families(text)  # type: ignore[no-untyped-call]
              for sample in family.samples}
-    wanted = {"wmbus_lines_total": 3, "wmbus_stored_total": 1, "wmbus_bad_total": 1, "wmbus_strangers_total": 1, "wmbus_meters": 3,
-              "wmbus_trouble": 0}
+    wanted = {"wmbus_lines_total": 3, "wmbus_stored_total": 1, "wmbus_bad_total": 1, "wmbus_strangers_total": 1, "wmbus_meters": 2,
+              "wmbus_meters_retired": 1, "wmbus_trouble": 0}
     assert {name: found[name] for name in wanted} == wanted
     served.end()
 

@@ -61,6 +61,39 @@ def test_overview(page: PageHouse) -> None:
     assert [it["text"] for it in json.loads(status(page.house.config, True))["aside"]] == ["A 1 00"]
 
 
+def test_meters_out_of_service(page: PageHouse) -> None:
+    """Nothing of them is missed: the list leaves them out and leads to them, and their pages and files have their readings as before. One
+    that is heard all the same is to be looked at."""
+    first, second, third = page.addresses
+    page.volume(first, NOW - 60, 12_345)
+    page.volume(second, NOW - 9 * DAY, 54_321)
+    page.write("insert into refusal values (?, 'mac', 'mac', 9, 1, ?)", third, NOW - 60)
+    page.write("insert into command (id, address, kind, payload, state, made, changed) values ('c1', ?, 'send', '00', 'expired', 1, ?)",
+               second, NOW - 60)
+
+    def looks() -> list[tuple[str, str]]:
+        told = page.client().get("/api/overview").json or {}
+        return [(it["link"], it["what"]) for it in told["looks"] if it["link"].startswith("/meters/")]
+    exported = page.client().get("/readings.csv").text
+    assert looks() == [(f"/meters/{third}", "key probably wrong"), (f"/meters/{second}", "silent for 9 days"),
+                       (f"/meters/{second}", "command given up")]
+    page.write("update meter set retired = ? where address <> ?", NOW - 5 * DAY, first)
+    assert looks() == [] and page.client().get("/readings.csv").text == exported
+    served, others = page.client().get("/").text, page.client().get("/?retired=1").text
+    for text in (served, others):
+        assert "1 of 1</b>" in text and (first in text) == (text == served) and (second in text) == (text == others)
+    assert '<a href="/?retired=1">2 meters are out of service</a>' in served and "out of service since 2027-01-10" in others
+    for query, wanted in (("", [first]), ("?retired=1", [second, third])):
+        assert [it["address"] for it in (page.client().get(f"/api/meters{query}").json or {})["meters"]] == wanted
+    own = page.client().get(f"/meters/{second}").text
+    assert "out of service since 2027-01-10" in own and "54.321 m³" in own and "silent" not in own
+    page.volume(second, NOW - 60, 54_322)
+    (look,) = [it for it in (page.client().get("/api/overview").json or {})["looks"] if it["link"] == f"/meters/{second}"]
+    assert look["to_do"].startswith("It was heard though it is out of service since 2027-01-10")
+    assert f"`wmbus-service retire --back {second}`" in look["to_do"]
+    assert "heard out of service" in page.client().get(f"/meters/{second}").text
+
+
 def test_nothing_to_look_at(page: PageHouse, monkeypatch: pytest.MonkeyPatch) -> None:
     """Where all is well it says so."""
     monkeypatch.setattr("wmbus_service.page.looks.is_locked", lambda folder: True)

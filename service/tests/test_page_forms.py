@@ -83,6 +83,37 @@ def test_add_a_stranger(page: PageHouse) -> None:
     assert page.house.all(f"select block from meter where address = '{STRANGER}'") == [f"meter {STRANGER} 7 {KEY} - - 0 0\n"]
 
 
+def test_out_of_service_and_back(page: PageHouse) -> None:
+    """Who has the token has a meter be out of service and puts it back by a button of its page, from that page alone. Meanwhile no command
+    is taken; the form of strangers puts it back too, and leaves its key."""
+    address = page.addresses[0]
+    path, blocks = f"/meters/{address}/retire", page.house.all("select block from meter")
+    assert "Out of service" not in page.client().get(f"/meters/{address}").text
+    client, word = entered(page.page(TOKEN))
+    for asking, data, headers in ((page.page(TOKEN).test_client(), {"forms": word}, {}), (client, {"forms": "x"}, {}),
+                                  (client, {"forms": word}, {"Origin": "http://elsewhere.example"})):
+        assert asking.post(path, data=data, headers=headers).status_code == 403
+    assert client.post(f"/meters/{STRANGER}/retire", data={"forms": word}).status_code == 400
+    assert page.house.all("select count(*) from meter where retired is not null") == [0]
+    command = {"forms": word, "payload": "01", "id": "valve"}
+    client.post(f"/meters/{address}/commands", data=command)
+    assert "<button>Out of service" in client.get(f"/meters/{address}").text
+    given = client.post(path, data={"forms": word}, follow_redirects=True).text
+    assert "1 command of it still waits: cancel it" in given and "<button>Back into service" in given and "<button>Queue" not in given
+    assert page.house.all("select address, retired from meter where retired is not null") == [(address, NOW)]
+    refused = client.post(f"/meters/{address}/commands", data=command | {"id": "other"})
+    assert refused.status_code == 400 and "is out of service since 2027-01-15" in refused.text
+    assert page.house.all("select id from command") == ["valve"]
+    added = {"forms": word, "address": address, "mode": "7", "key": KEY}
+    for form, data, words in ((path, {"forms": word, "back": "1"}, "It is back in service"),
+                              ("/strangers/add", added, "its key stays as it is")):
+        client.post(path, data={"forms": word})
+        back = client.post(form, data=data, follow_redirects=True)
+        assert back.status_code == 200 and words in back.text and "<button>Queue" in back.text
+        assert page.house.all("select count(*) from meter where retired is not null") == [0]
+    assert client.post("/strangers/add", data=added).status_code == 400 and page.house.all("select block from meter") == blocks
+
+
 def test_a_key_in_groups(page: PageHouse) -> None:
     """A stranger's key is taken as lists of keys have it, with colons or hyphens between its digits too."""
     page.write("insert into stranger values (?, 50, 'attic', ?)", STRANGER, NOW)

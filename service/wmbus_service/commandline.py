@@ -16,7 +16,7 @@ from contextlib import closing
 from pathlib import Path
 
 from . import backup, checking, demo, exporting, importing, key_lists, meters, service, store
-from .commands import cancel_command, joined, put_command, put_key
+from .commands import cancel_command, joined, put_command, put_key, waiting_commands, waiting_words
 from .config import Config, Page, Programs, read_config, words_of
 from .printing import leave_unread, open_streams, parsed
 from .publications import Publications
@@ -111,6 +111,10 @@ def _meter_words(command: Command) -> None:
     made = command("correct", _correct, "gives a meter another key in the place of its own, which was wrong; it is asked for as with `add`")
     made.add_argument("address", metavar="METER", type=_text)
     made.add_argument("--mode", choices=MODES, help="its security mode too, where that was wrong")
+    made = command("retire", _retire, "says that meters are out of service: nothing of them is missed any more; readings, counters and keys"
+                                      " stay")
+    made.add_argument("addresses", metavar="METER", type=_text, nargs="+")
+    made.add_argument("--back", action="store_true", help="puts them back into service")
     made = command("rekey", _rekey, "gives a meter of mode 7 its new second key, which is asked for as with `add`")
     made.add_argument("address", metavar="METER", type=_text)
 
@@ -233,6 +237,10 @@ def _add(asked: argparse.Namespace) -> int:
         key = _key_of(address)
         text = f"wmbus-roster 2\nown {own}\nmeter {address} {asked.mode} {key} - - 0 0\n"
         added = meters.take_roster(config, database, text, f"meter {asked.address}", meters.name_of(asked.name))
+        if not added and meters.bring_back(database, [address]):
+            print(f"meter {address} is known already, and is back in service; its key stays as it is (`wmbus-service correct` gives it"
+                  " another one, and `rekey` a second one)")
+            return DONE
         if not added:
             raise Trouble(f"meter {asked.address}", "it is known already",
                           "its key stays as it is; `wmbus-service correct` gives it another one, and `rekey` a second one")
@@ -280,9 +288,10 @@ def _import(asked: argparse.Namespace) -> int:
     rows = importing.read_list(asked.list, content, lambda: _secret(f"password of {asked.list}"))
     with _opened(config, True) as database:
         wish = importing.Wish(_own(config, database, asked.own), asked.mode, asked.heard)
-        added, others, left = importing.take_list(config, database, asked.list, rows, wish)
+        added, others, left, back = importing.take_list(config, database, asked.list, rows, wish)
     print(f"{added} new meters" + (f"; {others} are known with another key, and keep theirs (`correct` changes it)" if others else "")
-          + (f"; {left} weren't heard yet, and are left" if left else ""))
+          + (f"; {left} weren't heard yet, and are left" if left else "")
+          + (f"; {back} were out of service, and are back with the keys that they had" if back else ""))
     return DONE
 
 
@@ -292,6 +301,21 @@ def _correct(asked: argparse.Namespace) -> int:
         meters.judge_known(database, address, f"meter {address}")
         meters.correct_key(config, database, address, _key_of(address), asked.mode)
     print(f"meter {address} has another key" + (f", in mode {asked.mode}" if asked.mode else ""))
+    return DONE
+
+
+def _retire(asked: argparse.Namespace) -> int:
+    config, addresses = _config(asked), list(dict.fromkeys(it.lower() for it in asked.addresses))
+    with _opened(config) as database:
+        if asked.back:
+            meters.bring_back(database, addresses)
+            print(*(f"meter {address} is in service" for address in addresses), sep="\n")
+            return DONE
+        meters.retire(database, addresses, time.time())
+        for address in addresses:
+            since = meters.retired_since(database, address)
+            words = waiting_words(waiting_commands(database, address))
+            print(f"meter {address} is out of service" + (f" since {meters.day_of(since)}" if since is not None else "") + words)
     return DONE
 
 

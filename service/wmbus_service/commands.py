@@ -4,7 +4,7 @@ from __future__ import annotations
 import re
 import sqlite3
 
-from .meters import judge_known
+from .meters import judge_in_service, judge_known
 from .publications import Publications
 from .store import transaction
 from .trouble import Trouble
@@ -53,9 +53,24 @@ def judge_ident(ident: str) -> None:
 def _put(database: sqlite3.Connection, ident: str, address: str, kind: str, payload: str, now: float) -> bool:
     judge_ident(ident)
     judge_known(database, address, f"command {ident}")
+    # (a key goes to no meter, and a command that was taken before isn't taken anew)
+    if kind == "send" and not database.execute("select 1 from command where id = ?", (ident,)).fetchone():
+        judge_in_service(database, address, f"command {ident}")
     added = database.execute("insert or ignore into command (id, address, kind, payload, made, changed) values (?, ?, ?, ?, ?, ?)",
                              (ident, address, kind, payload, now, now))
     return bool(added.rowcount)
+
+
+def waiting_commands(database: sqlite3.Connection, address: str) -> int:
+    """How many commands wait for a meter, and aren't to be cancelled."""
+    (count,) = database.execute("select count(*) from command where address = ? and kind = 'send' and wish is null"
+                                " and state in ('waiting', 'queued', 'sent')", (address,)).fetchone()
+    return int(count)
+
+
+def waiting_words(count: int) -> str:
+    """What is said of commands that wait for a meter which went out of service."""
+    return f"; {count} {'command of it still waits: cancel it' if count == 1 else 'commands of it still wait: cancel them'}" * bool(count)
 
 
 def cancel_command(database: sqlite3.Connection, ident: str, now: float, publications: Publications | None = None) -> str:

@@ -14,7 +14,7 @@ from .asking import Database
 from .commands import joined
 from .config import Config, words_of
 from .key_lists import Row
-from .meters import KEY_PLACE, name_of, take_roster
+from .meters import KEY_PLACE, bring_back, name_of, take_roster
 from .trouble import Trouble
 
 ADDRESS = re.compile(r"[0-9a-f]{16}")
@@ -55,9 +55,9 @@ def read_list(path: Path, content: bytes, password: Callable[[], str]) -> list[R
     return kem.read_kem(path, content, password)
 
 
-def take_list(config: Config, database: sqlite3.Connection, path: Path, rows: Sequence[Row], wish: Wish) -> tuple[int, int, int]:
-    """Adds the meters of a list, all of them or none; how many are new, how many are known with another key, and how many are left since
-    they weren't heard yet."""
+def take_list(config: Config, database: sqlite3.Connection, path: Path, rows: Sequence[Row], wish: Wish) -> tuple[int, int, int, int]:
+    """Adds the meters of a list, all of them or none; how many are new, how many are known with another key, how many are left since they
+    weren't heard yet, and how many were out of service and are back."""
     addresses = Addresses(words_of(config.programs.meter_name), database)
     meters, unheard = meters_of(path, rows, addresses, wish)
     blocks = database.execute("select address, block from meter where address in (select value from json_each(?))",
@@ -68,7 +68,8 @@ def take_list(config: Config, database: sqlite3.Connection, path: Path, rows: Se
     with store.transaction(database):
         database.executemany("update meter set name = ? where address = ? and name = ''",
                              [(name, address) for address, (_, name) in meters.items()])
-    return added, others, unheard
+        back = bring_back(database, list(meters))
+    return added, others, unheard, back
 
 
 def meters_of(path: Path, rows: Sequence[Row], addresses: Addresses, wish: Wish) -> tuple[dict[str, tuple[str, str]], int]:

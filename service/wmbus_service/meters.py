@@ -1,12 +1,15 @@
 """The meters that the service knows: how they come into the database, and their line of a roster."""
 from __future__ import annotations
 
+import json
 import logging
 import sqlite3
+import time
 from collections.abc import Iterator, Sequence
 from pathlib import Path
 
 from . import store
+from .asking import Database
 from .config import Config, words_of
 from .steps import ProgramFailed, run_steps
 from .trouble import Trouble
@@ -31,6 +34,43 @@ def judge_known(database: sqlite3.Connection, address: str, place: object) -> No
     """A meter that isn't known."""
     if not database.execute("select 1 from meter where address = ?", (address,)).fetchone():
         raise Trouble(place, f"there is no meter {address}", "`wmbus-service status` lists the meters")
+
+
+def retired_since(database: Database, address: str) -> float | None:
+    """Since when a meter is out of service; none while it is in service, and of one that isn't known."""
+    row = database.execute("select retired from meter where address = ?", (address,)).fetchone()
+    return row[0] if row else None
+
+
+def judge_in_service(database: sqlite3.Connection, address: str, place: object) -> None:
+    """A meter that is out of service."""
+    since = retired_since(database, address)
+    if since is not None:
+        raise Trouble(place, f"the meter {address} is out of service since {day_of(since)}",
+                      f"`wmbus-service retire --back {address}` puts it back")
+
+
+def day_of(moment: float) -> str:
+    """A moment's day, in this machine's zone."""
+    return time.strftime("%Y-%m-%d", time.localtime(moment))
+
+
+def retire(database: sqlite3.Connection, addresses: Sequence[str], now: float) -> None:
+    """Says that meters are out of service from now on, all of them or none; of those that are so already the first moment stays."""
+    _mark(database, addresses, "retired = ? where retired is null", (now,))
+
+
+def bring_back(database: sqlite3.Connection, addresses: Sequence[str]) -> int:
+    """Puts meters back into service, all of them or none; how many of them were out of it."""
+    return _mark(database, addresses, "retired = null where retired is not null", ())
+
+
+def _mark(database: sqlite3.Connection, addresses: Sequence[str], words: str, given: tuple[float, ...]) -> int:
+    """Changes since when meters are out of service; how many were changed. (One statement: it is done whole, also amid a session.)"""
+    for address in addresses:
+        judge_known(database, address, f"meter {address}")
+    return database.execute(f"update meter set {words} and address in (select value from json_each(?))",
+                            (*given, json.dumps(addresses))).rowcount
 
 
 def judge_own(database: sqlite3.Connection, own: str, place: object) -> None:

@@ -42,7 +42,8 @@ COUNTERS = {
 # what a service has beside what its sessions count
 BESIDE = {"publications_left_out": "messages that weren't published, since too many waited and later ones of their topics did"}
 GAUGES = {
-    "meters": ("meters that are known", "select count(*) from meter"),
+    "meters": ("meters in service", "select count(*) from meter where retired is null"),
+    "meters_retired": ("meters out of service", "select count(*) from meter where retired is not null"),
     "publications_waiting": ("messages that the broker hasn't acknowledged", "select count(*) from publication"),
     "downlinks_waiting": ("downlinks that aren't sent", "select count(*) from outbox where sent is null and missed is null"),
     "downlinks_missed": ("downlinks that couldn't be sent in time", "select count(*) from outbox where missed is not null"),

@@ -85,6 +85,9 @@ alter table announced add column told integer not null default 1;
 # lines of a state that an earlier service took for meters', where it was named as a roster
 NO_METERS = "delete from meter where substr(block, 1, 6) <> 'meter ';\n"
 
+# since when a meter is out of service, in seconds since 1970; null while it is in service
+RETIRED = "alter table meter add column retired real;\n"
+
 # the statements that make of version N the version N + 1
-MIGRATIONS = (FIRST, DAYS, FAILED, WAITING, UNITS, NO_METERS)
+MIGRATIONS = (FIRST, DAYS, FAILED, WAITING, UNITS, NO_METERS, RETIRED)
 VERSION = len(MIGRATIONS)

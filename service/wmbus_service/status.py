@@ -11,6 +11,7 @@ from typing import Any
 from . import service, store
 from .asking import Database
 from .config import Config
+from .meters import day_of
 from .retention import DAY, HEARD, seconds_behind, went_forward
 from .sensors import NUMBER
 from .spool import size_of
@@ -23,7 +24,7 @@ LAST_READING = f"select id, {HEARD}, counter from reading where id = (select max
 def figures(config: Config, database: sqlite3.Connection) -> dict[str, Any]:
     """All that is told, as data."""
     now = time.time()
-    meters = database.execute("select address, name, waits, holds, receiver from meter order by place").fetchall()
+    meters = database.execute("select address, name, waits, holds, receiver from meter where retired is null order by place").fetchall()
     is_running = service.is_locked(config.folder)
     return {
         "running": is_running,
@@ -32,6 +33,9 @@ def figures(config: Config, database: sqlite3.Connection) -> dict[str, Any]:
         "clock_went_forward": round(seconds_behind(database, now)) if is_running else 0,
         "totals": dict(database.execute("select name, value from total order by name").fetchall()),
         "meters": [meter(database, row, now) for row in meters],
+        "retired": _rows(database, f"select address, name, retired, (select {HEARD} from reading where id ="
+                                   " (select max(id) from reading where reading.address = meter.address)) as heard"
+                                   " from meter where retired is not null order by place"),
         "commands": _rows(database, "select id, address, kind, state, tries, reason from command"
                                     " where state in ('waiting', 'queued', 'sent') order by rowid"),
         "downlinks_missed": _rows(database, "select address, receiver, down, missed from outbox where missed is not null"
@@ -102,6 +106,12 @@ def in_words(told: dict[str, Any]) -> Iterator[str]:
             yield f"meter {name}: no reading yet"
         else:
             yield f"meter {name}: {', '.join(it['values']) or 'no values'} ({it['age']} s ago, by {it['receiver'] or 'nobody'})"
+    if retired := told["retired"]:
+        yield f"{len(retired)} {'meter is' if len(retired) == 1 else 'meters are'} out of service"
+    for it in retired:
+        if it["heard"] is not None and it["heard"] > it["retired"]:
+            yield (f"meter {it['address']} {it['name']}".strip() + f" was heard though it is out of service since {day_of(it['retired'])}"
+                   f" (`wmbus-service retire --back {it['address']}` puts it back)")
     for it in told["commands"]:
         yield f"command {it['id']} for {it['address']}: {it['state']}, sent {it['tries']} times"
     for it in told["downlinks_missed"]:

@@ -26,7 +26,7 @@ from ..config import Config
 from ..tool_modules import FOLDER
 from ..trouble import Trouble
 from . import periods, reading, views
-from .house import Door, HouseDoor
+from .house import Door, HouseDoor, Retiring
 from .shared import counted, grouped, is_address, time_text, times, zone_text
 
 log = logging.getLogger("wmbus")
@@ -100,7 +100,7 @@ def create_page(door: Door, token: str | None, is_elsewhere: bool) -> Flask:
     app.jinja_options = {"trim_blocks": True, "lstrip_blocks": True}
     app.jinja_env.filters.update(moment=_moment_text, ago=_ago, grouped=grouped, counted=counted, times=times, html=Markup)
     app.jinja_env.globals.update(zone=zone_text, may_write=may_write, has_token=lambda: token is not None, forms=_forms_word,
-                                 new_ident=new_ident, spans=list(periods.SPANS), door=door)
+                                 new_ident=new_ident, spans=list(periods.SPANS), door=door, retires=isinstance(door, Retiring))
     app.register_blueprint(pages)
     from .forms import forms
     app.register_blueprint(forms)
@@ -257,7 +257,12 @@ def common_style() -> Response:
 def overview() -> str:
     """What needs a person, then all meters."""
     config, now = config_now()
-    return render_template("overview.html", **views.overview(config, database(), now))
+    return render_template("overview.html", shows_retired=_shows_retired(), **views.overview(config, database(), now))
+
+
+def _shows_retired() -> bool:
+    """Whether meters out of service are asked for, in the place of those in service."""
+    return request.args.get("retired") == "1"
 
 
 @pages.get("/meters/<address>")
@@ -270,7 +275,9 @@ def _meter(address: str) -> dict[str, Any]:
     span = request.args.get("span", "month")
     if span not in periods.SPANS:
         raise Worded(f"A span is one of {', '.join(periods.SPANS)}.")
-    told = views.meter_page(database(), _address(address), span, clock())
+    address, door = _address(address), door_of()
+    retired = door.retired_since(database(), address) if isinstance(door, Retiring) else None
+    told = views.meter_page(database(), address, span, clock(), retired)
     return told if told is not None else abort(404)
 
 
@@ -302,9 +309,10 @@ def api_overview() -> Response:
 
 @house.get("/api/meters")
 def api_meters() -> Response:
-    """All meters with their last values."""
-    now = config_now()[1]
-    return jsonify(now=now, meters=[views.meter_data(it) for it in reading.all_meters(database(), now)])
+    """All meters with their last values, of those in service or of those out of it."""
+    now, is_retired = config_now()[1], _shows_retired()
+    found = [it for it in reading.all_meters(database(), now) if (it.retired is not None) == is_retired]
+    return jsonify(now=now, meters=[views.meter_data(it) for it in found])
 
 
 @pages.get("/api/meters/<address>")

@@ -9,10 +9,11 @@ from urllib.parse import urlsplit
 from flask import Blueprint, abort, current_app, flash, redirect, render_template, request, session
 from werkzeug.wrappers import Response
 
-from ..commands import KEY, joined
+from ..commands import KEY, joined, waiting_words
 from ..importing import ADDRESS
 from ..meters import name_of
 from .app import Worded, clock, door_of, may_write, new_ident
+from .house import Retiring
 
 forms = Blueprint("forms", __name__)
 MODES = ("5", "7")
@@ -93,6 +94,22 @@ def cancel(address: str) -> Response:
     return redirect(f"/meters/{address}", 303)
 
 
+@forms.post("/meters/<address>/retire")
+def retire(address: str) -> Response:
+    """Has a meter be out of service, or puts it back."""
+    door = door_of()
+    if not isinstance(door, Retiring):
+        abort(404)
+    if not ADDRESS.fullmatch(address):
+        raise Worded("A meter's address has sixteen hexadecimal digits.")
+    if _field("back"):
+        door.bring_back(address)
+        flash("It is back in service.")
+    else:
+        flash(f"It is out of service{waiting_words(door.retire(address, clock()))}.")
+    return redirect(f"/meters/{address}", 303)
+
+
 @forms.post("/strangers/add")
 def add() -> Response:
     """Makes a stranger a meter, by the key that its owner has of its maker."""
@@ -102,7 +119,11 @@ def add() -> Response:
     if not KEY.fullmatch(key):
         raise Worded("A key has 32 hexadecimal digits.")
     name = name_of(_field("name"))
-    if not door_of().add_meter(f"meter {address} {mode} {key} - - 0 0", name):
+    door = door_of()
+    if door.add_meter(f"meter {address} {mode} {key} - - 0 0", name):
+        flash(f"{name or address} was added. What it sends from now on is read.")
+    elif isinstance(door, Retiring) and door.bring_back(address):
+        flash("This meter is known already, and is back in service; its key stays as it is.")
+    else:
         raise Worded("This meter is known already; its key stays as it is.")
-    flash(f"{name or address} was added. What it sends from now on is read.")
     return redirect(f"/meters/{address}", 303)

@@ -4,11 +4,11 @@ from __future__ import annotations
 import sqlite3
 from collections.abc import Sequence
 from contextlib import closing
-from typing import Protocol
+from typing import Protocol, runtime_checkable
 
 from .. import meters, store
 from ..asking import Database
-from ..commands import cancel_command, put_command
+from ..commands import cancel_command, put_command, waiting_commands
 from ..config import Config
 from ..publications import Publications
 from ..trouble import Trouble
@@ -44,6 +44,20 @@ class Door(Protocol):
 
     def add_meter(self, line: str, name: str) -> bool:
         """Adds a meter by what stands in its line of a roster; whether it is new."""
+
+
+@runtime_checkable
+class Retiring(Protocol):
+    """A store whose meters may be out of service, which not each one tells."""
+
+    def retired_since(self, database: Database, address: str) -> float | None:
+        """Since when a meter is out of service; none while it is in service."""
+
+    def retire(self, address: str, now: float) -> int:
+        """Says that a meter is out of service; how many commands still wait for it."""
+
+    def bring_back(self, address: str) -> bool:
+        """Puts a meter back into service; whether it was out of it."""
 
 
 class HouseDoor:
@@ -91,3 +105,18 @@ class HouseDoor:
                 return False
             database.execute("update meter set name = ? where address = ?", (name, address))
             return True
+
+    def retired_since(self, database: Database, address: str) -> float | None:
+        """Since when a meter is out of service; none while it is in service."""
+        return meters.retired_since(database, address)
+
+    def retire(self, address: str, now: float) -> int:
+        """Says that a meter is out of service; how many commands still wait for it."""
+        with self._writing() as database:
+            meters.retire(database, [address], now)
+            return waiting_commands(database, address)
+
+    def bring_back(self, address: str) -> bool:
+        """Puts a meter back into service; whether it was out of it."""
+        with self._writing() as database:
+            return bool(meters.bring_back(database, [address]))

@@ -70,6 +70,13 @@ def silence(seconds: float) -> str:
 def meter_looks(meter: Meter, refusals: list[dict[str, Any]], now: float) -> Iterator[Look]:
     """What is to be looked at of a meter, worst first."""
     link = f"/meters/{meter.address}"
+    if meter.retired is not None:
+        # (nothing of it is missed any more)
+        if meter.heard is not None and meter.heard > meter.retired:
+            yield Look("look", "heard out of service", meter.title, link,
+                       f"It was heard though it is out of service since {time_text(int(meter.retired))}. `wmbus-service retire --back"
+                       f" {meter.address}` puts it back.")
+        return
     is_late = meter.heard is None or now - meter.heard > LATE
     later = [row for row in refusals if is_late and row["reason"] not in REPEATS and row["last_made"] > max(meter.heard or 0, now - RECENT)]
     wrong_key = [row for row in later if row["reason"] in WRONG_KEY]
@@ -114,7 +121,9 @@ def all_looks(config: Config, database: Database, meters: list[Meter], radios: l
     titles = {meter.address: meter.title for meter in meters}
     for meter in meters:
         found += meter_looks(meter, refusals.get(meter.address, []), now)
-    found += _of_commands(database, titles, now)
+    retired = {f"/meters/{meter.address}" for meter in meters if meter.retired is not None}
+    # (no command can be queued again for one that is out of service)
+    found += [it for it in _of_commands(database, titles, now) if it.link not in retired]
     found += _of_strangers(database, now)
     return sorted(found, key=lambda it: it.kind != "bad")
 

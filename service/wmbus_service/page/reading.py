@@ -93,6 +93,8 @@ class Meter:
     heard: float | None
     counter: int | None
     main: Value | None
+    # since when it is out of service
+    retired: float | None = None
 
     @property
     def title(self) -> str:
@@ -131,7 +133,8 @@ def told_raw(quantity: str, raw: str) -> str:
 
 def all_meters(database: Database, now: float) -> list[Meter]:
     """All meters, in the order in which they were added."""
-    return meters_of(database, database.execute("select address, name, receiver from meter order by place").fetchall(), now)
+    rows = database.execute("select address, name, receiver, retired from meter order by place").fetchall()
+    return [replace(meter, retired=row[3]) for meter, row in zip(meters_of(database, [row[:3] for row in rows], now), rows, strict=True)]
 
 
 def meters_of(database: Database, rows: Sequence[tuple[str, str, str | None]], now: float) -> list[Meter]:

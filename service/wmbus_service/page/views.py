@@ -4,7 +4,7 @@ from __future__ import annotations
 import csv
 import io
 from collections.abc import Iterator
-from dataclasses import asdict
+from dataclasses import asdict, replace
 from typing import Any
 
 from ..asking import Database
@@ -21,7 +21,7 @@ MOST_LOOKS, MOST_SHOWN = 100, 200
 def meter_data(meter: Meter) -> dict[str, Any]:
     """A meter as data."""
     told = {"address": meter.address, "name": meter.name, "title": meter.title, "about": meter.about, "receiver": meter.receiver,
-            "heard": meter.heard, "counter": meter.counter}
+            "heard": meter.heard, "counter": meter.counter, "retired": meter.retired}
     return told | {"main": value_data(meter.main) if meter.main else None}
 
 
@@ -38,7 +38,7 @@ def value_data(value: Value) -> dict[str, Any]:
 
 
 def overview(config: Config, database: Database, now: float) -> dict[str, Any]:
-    """What needs a person first, then all meters."""
+    """What needs a person first, then all meters, those out of service apart."""
     meters = all_meters(database, now)
     found = looks.all_looks(config, database, meters, radios.receivers(config, database, now), now)
     kinds: dict[str, tuple[str, str]] = {}
@@ -47,17 +47,19 @@ def overview(config: Config, database: Database, now: float) -> dict[str, Any]:
             kinds[look.link.removeprefix("/meters/")] = look.kind, look.what
     totals = dict(database.execute("select name, value from total").fetchall())
     (waiting,) = database.execute("select count(*) from command where state in ('waiting', 'queued', 'sent')").fetchone()
+    rows = [meter_data(meter) | {"look": kinds.get(meter.address)} for meter in meters]
     return {"now": now, "sqlite": f"{config.database.absolute().as_uri()}?mode=ro", "looks": [vars(look) for look in found],
-            "meters": [meter_data(meter) | {"look": kinds.get(meter.address)} for meter in meters],
+            "meters": [it for it in rows if it["retired"] is None], "retired": [it for it in rows if it["retired"] is not None],
             "totals": {"lines": totals.get("lines", 0), "stored": totals.get("stored", 0), "commands": waiting,
-                       "read": sum(it.heard is not None for it in meters)}}
+                       "read": sum(it.heard is not None and it.retired is None for it in meters)}}
 
 
-def meter_page(database: Database, address: str, span: str, now: float) -> dict[str, Any] | None:
-    """All of a meter, if it is known."""
-    meter = one_meter(database, address, now)
-    if meter is None:
+def meter_page(database: Database, address: str, span: str, now: float, retired: float | None = None) -> dict[str, Any] | None:
+    """All of a meter, if it is known; it may be out of service since some moment."""
+    known = one_meter(database, address, now)
+    if known is None:
         return None
+    meter = replace(known, retired=retired)
     values = last_values(database, meter.address, now)
     refusals = refusals_of(database, meter.address)
     used = []
