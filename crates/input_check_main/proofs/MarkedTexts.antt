@@ -11,8 +11,8 @@ use Rattle.roster_file.specs.Roster.{entries_from, is_passed_over, roster_of, he
 use Rattle.roster_file.proofs.RosterLines.{counted}
 use Rattle.state_file.specs.declared.fault.StateFault.{StateFault}
 use Rattle.state_file.specs.Whole.{Known, headed, of_roster, state_of}
-use Rattle.state_file.specs.Faults.{refused, first_of, state_faults_of}
-use Rattle.state_file.proofs.AllFaults.{first_fault_refuses}
+use Rattle.input_faults.specs.StateFaults.{refused, first_of, state_faults_of}
+use Rattle.input_faults.proofs.StateFaults.{first_fault_refuses}
 use Rattle.input_check_main.specs.Bytes.{has_mark}
 use Rattle.input_check_main.specs.States.{is_faulty_text}
 

@@ -4,7 +4,7 @@ use Rattle.std.specs.List.{flat_map}
 use Rattle.paper.specs.Pieces.{labelled}
 use Rattle.state_file.specs.declared.fault.StateFault.{StateFault}
 use Rattle.state_file.specs.declared.fault.StateFault.TheVariants.{Roster, Line, Memory}
-use Rattle.state_file.specs.Faults.{is_state, state_faults_of}
+use Rattle.input_faults.specs.StateFaults.{is_state, state_faults_of}
 use Rattle.input_check_main.specs.declared.faulty.FaultyLine.{FaultyLine}
 use Rattle.input_check_main.specs.Bytes.{unmarked, mark_words, bytes_words}
 use Rattle.input_check_main.specs.Causes.{roster_words, state_words, line_words}

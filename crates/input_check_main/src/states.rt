@@ -4,7 +4,7 @@ ghost use Rattle.outer_io.specs.Bytes.{AppendsFront};
 ghost use Rattle.outer_io.specs.Shown.{ReadFailed, IsReadOut, LosesNothing, source_change, sink_change};
 ghost use Rattle.meter_slots.specs.Journal.{commission_of};
 ghost use Rattle.state_file.specs.Whole.{state_of};
-ghost use Rattle.state_file.specs.Faults.{most_bytes};
+ghost use Rattle.input_faults.specs.StateFaults.{most_bytes};
 ghost use Rattle.input_check_main.specs.Bytes.{has_mark};
 ghost use Rattle.input_check_main.specs.States.{is_faulty_text, meters_in, most_in, IsTooLong, IsReadWithin, FaultyAreRefused, RostersHaveTheirMeters};
 ghost use Rattle.input_check_main.specs.Stops.{StopsBy, FileStops};
@@ -12,12 +12,13 @@ ghost use Rattle.input_check_main.specs.Findings.{file_word, state_text};
 
 use crate::bytes::{has_mark, unmarked};
 use crate::findings::StateFindings;
+use input_faults::{is_state, state_faults};
 use meter_address::Commission;
 use meter_slots::MeterStart;
 use outer_io::{Memory, ReadError, Sink, Source, read_all};
 use paper::write;
 use roster_file::MOST_BYTES;
-use state_file::{STATE_MOST, StateFault, is_state, read_state, state_faults};
+use state_file::{STATE_MOST, StateFault, read_state};
 use std::alloc::Global;
 
 /// Why nothing more is checked.

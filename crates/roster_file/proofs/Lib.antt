@@ -3,6 +3,5 @@ pub mod LinePieces
 pub mod ReadBack
 pub mod RosterLines
 pub mod Words
-pub mod AllFaults
 pub mod Gives
 pub mod Apart

@@ -3,4 +3,3 @@ pub mod Columns
 pub mod Text
 pub mod Writing
 pub mod Enrolled
-pub mod Faults

@@ -16,7 +16,8 @@ pub const MOST_BYTES: usize = 1_048_576;
 /// The most meters of a roster.
 pub const MOST_METERS: usize = 4_096;
 
-pub(crate) fn version_of(head: &[u8]) -> Option<Version>
+/// The version that a roster's head says, if it is one.
+pub fn version_of(head: &[u8]) -> Option<Version>
     ensures { result ≡ head_of head.now }
 {
     if head == b"wmbus-roster 1".as_slice() {
@@ -83,8 +84,8 @@ fn enlist(meters: &[Commission], meter: Commission) -> Result<Commission, LineCa
     Ok(meter)
 }
 
-// The meter of a line, where it can stand behind these.
-pub(crate) fn next_meter(
+/// The meter of a line, where it can stand behind these. A fault says the line and why it can't.
+pub fn next_meter(
     version: Version,
     entry: &Entry<'_>,
     meters: &[Commission],

@@ -13,4 +13,3 @@ pub mod ReadHeld
 pub mod ReadLines
 pub mod ReadStates
 pub mod RosterStates
-pub mod AllFaults

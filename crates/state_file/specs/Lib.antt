@@ -9,4 +9,3 @@ pub mod Recommissioning
 pub mod Printing
 pub mod Telling
 pub mod Rooms
-pub mod Faults

@@ -66,6 +66,14 @@ abbrev pub opens_meter : List (List ℕ) → Bool
 opens_meter [] = false
 opens_meter (kind ∷ fields) = is_word kind (codes "meter")
 
+-- no more lines of the last meter follow
+abbrev pub closed : Progress → Progress
+closed p = record { before = all_of p; last = None }
+
+-- what a faulty line leaves: it adds nothing, and where it is to begin a meter the lines below it are of none
+abbrev pub left_by : Progress → List ℕ → Progress
+left_by p line = if opens_meter (fields_of line) then closed p else p
+
 -- a line below a meter's line says more of this meter
 abbrev pub with_last : List Start → Option Start → List ℕ → Result Progress FileCause
 with_last before None line = Err causes.Place

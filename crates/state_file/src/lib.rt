@@ -1,7 +1,6 @@
 //! The text of a state: what a session begins from, and what it leaves.
 #![tactic(auto)]
 
-mod all_faults;
 mod bytes;
 mod cause;
 mod commands;
@@ -19,13 +18,13 @@ mod state;
 mod words;
 mod writing;
 
-pub use all_faults::{first_fault_refuses, is_state, rosters_are_judged_as_rosters, state_faults};
 pub use cause::{LineFault, StateCause};
 pub use fault::{FileCause, StateFault};
 pub use left::{LeftRoster, LeftState};
 pub use line::read_line;
 pub use load::{StateLoadFault, load_state};
-pub use reader::{STATE_MOST, read_state};
+pub use meters::Meters;
+pub use reader::{STATE_MOST, is_end, is_head, read_state};
 pub use showing::{show_known, show_left, show_state};
 pub use state::State;
 pub use words::{roster_word, state_word};

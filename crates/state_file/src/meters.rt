@@ -31,9 +31,9 @@ fn has_namesake(starts: &[MeterStart], address: Address) -> bool
     starts.iter().any(|other| other.address().0 == address.0)
 }
 
-// The meters whose lines were all read, and the one whose lines are being read.
+/// The meters whose lines were all read, and the one whose lines are being read.
 #[derive(Drop)]
-pub(crate) struct Meters {
+pub struct Meters {
     before: Vec<MeterStart>,
     last: Option<MeterStart>,
 }
@@ -49,12 +49,11 @@ impl Model for Meters {
 impl Meters {
     ghost use Rattle.std.specs.Prelude.{◌≡◌, ◌⊎◌, [], Ok, None, OnOk, IfOk, IfErr};
     ghost use Rattle.meter_address.specs.Commission.{Commissioned};
-    ghost use Rattle.state_file.specs.Faults.{closed, left_by};
-    ghost use Rattle.state_file.specs.Whole.{Progress, no_meters, all_of, at_line, by_roster, enlisted, read_more};
+    ghost use Rattle.state_file.specs.Whole.{Progress, no_meters, all_of, at_line, by_roster, closed, enlisted, left_by, read_more};
     ghost use Rattle.state_file.specs.Reading.{IsFaultOf};
 
-    // None was read.
-    pub(crate) fn new(alloc: Global) -> Self
+    /// None was read.
+    pub fn new(alloc: Global) -> Self
         ensures { result ≡ no_meters }
     {
         Meters {
@@ -93,9 +92,10 @@ impl Meters {
         Ok(())
     }
 
-    // What one more line says. A faulty line adds nothing, and one that begins a meter closes the one before.
+    /// What one more line says. A faulty line adds nothing, and one that begins a meter closes the one before; its fault says the line and
+    /// what is wrong with it, or that there is no memory.
     #[tactic(auto, unfolding(crate::specs::Whole::read_more))]
-    pub(crate) fn read(&mut self, alloc: Global, line: u32, text: &[u8]) -> Result<(), StateFault>
+    pub fn read(&mut self, alloc: Global, line: u32, text: &[u8]) -> Result<(), StateFault>
         ensures ok { OnOk result (at_line line (read_more self.old text.now) ≡ Ok self.new) }
         ensures fault { IfErr result (λ fault. IsFaultOf (at_line line (read_more self.old text.now)) fault) }
         ensures left { IfErr result (λ fault. (fault ≡ StateFault.Memory) ⊎ (self.new ≡ left_by self.old text.now)) }

@@ -26,13 +26,15 @@ fn read_end(meters: Meters, entries: &mut Entries<'_>) -> Result<Vec<MeterStart>
     }
 }
 
-pub(crate) fn is_end(text: &[u8]) -> bool
+/// Whether a line is the last one of a state, `end`.
+pub fn is_end(text: &[u8]) -> bool
     ensures { result ≡ is_word text.now (codes "end") }
 {
     text == b"end".as_slice()
 }
 
-pub(crate) fn is_head(text: &[u8]) -> bool
+/// Whether a line is the head of a state.
+pub fn is_head(text: &[u8]) -> bool
     ensures { result ≡ is_word text.now (codes "wmbus-state 1") }
 {
     text == b"wmbus-state 1".as_slice()

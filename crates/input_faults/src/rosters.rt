@@ -1,13 +1,10 @@
 //! Every faulty line of a roster.
 ghost use Rattle.std.specs.Prelude.{◌≡◌, ◌∷◌, ◌++◌, [], IfOk, MatchResult};
 ghost use Rattle.roster_file.specs.Roster.{enlisted_from};
-ghost use Rattle.roster_file.specs.Faults.{before, faults_in, faults_owned, faults_headed, faults_of, FirstFaultRefuses};
+ghost use Rattle.input_faults.specs.RosterFaults.{before, faults_in, faults_owned, faults_headed, faults_of, FirstFaultRefuses};
 
-use crate::entries::Entries;
-use crate::fields::{Version, read_own_line};
-use crate::reader::{MOST_BYTES, next_meter, version_of};
-use crate::roster::{LineCause, RosterFault};
 use outer_io::Memory;
+use roster_file::{Entries, LineCause, MOST_BYTES, RosterFault, Version, next_meter, read_own_line, version_of};
 use std::alloc::Global;
 
 // Puts the faulty ones of the meters' lines that are left behind the faults.
@@ -30,7 +27,7 @@ fn add_meter_faults(
 }
 
 // Puts the faulty ones of the own line and of those behind it behind the faults.
-#[tactic(auto, unfolding(crate::specs::Faults::faults_owned))]
+#[tactic(auto, unfolding(crate::specs::RosterFaults::faults_owned))]
 fn add_owned_faults(
     alloc: Global,
     version: Version,
@@ -56,7 +53,7 @@ fn add_owned_faults(
 
 /// Every faulty line of a roster, in order, each with what is wrong with it; the first is that for which `read_roster` refuses
 /// it. A faulty line is passed over and adds no meter; where the head says no version, the lines are read in version 2.
-#[tactic(auto, unfolding(crate::specs::Faults::faults_headed, crate::specs::Faults::faults_of))]
+#[tactic(auto, unfolding(crate::specs::RosterFaults::faults_headed, crate::specs::RosterFaults::faults_of))]
 pub fn roster_faults(alloc: Global, bytes: &[u8]) -> Result<Vec<RosterFault>, Memory>
     ensures { IfOk result (λ faults. faults.items ≡ faults_of bytes.now) }
 {
@@ -85,7 +82,7 @@ pub fn roster_faults(alloc: Global, bytes: &[u8]) -> Result<Vec<RosterFault>, Me
 }
 
 /// The first faulty line of a roster is the one that reading it is refused for, so that no line is faulty exactly where it is read.
-#[tactic(auto, using(crate::proofs::AllFaults::first_fault_refuses))]
-pub fn first_fault_refuses()
+#[tactic(auto, using(crate::proofs::RosterFaults::first_fault_refuses))]
+pub fn first_roster_fault_refuses()
     ensures { FirstFaultRefuses }
 {}

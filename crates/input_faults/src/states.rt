@@ -1,14 +1,13 @@
 //! Every faulty line of a state.
 ghost use Rattle.std.specs.Prelude.{◌≡◌, ◌≤◌, ◌∷◌, ◌++◌, [], length, map, IfOk, OnOk};
-ghost use Rattle.roster_file.specs.Faults.{faults_of};
+ghost use Rattle.input_faults.specs.RosterFaults.{faults_of};
 ghost use Rattle.state_file.specs.Whole.{by_fault, no_meters};
-ghost use Rattle.state_file.specs.Faults.{behind_end, faults_in, faults_owned, is_state, state_faults_of, FirstFaultRefuses, OthersAreRosters};
+ghost use Rattle.input_faults.specs.StateFaults.{behind_end, faults_in, faults_owned, is_state, state_faults_of, FirstFaultRefuses, OthersAreRosters};
 
-use crate::fault::{FileCause, StateFault};
-use crate::meters::Meters;
-use crate::reader::{STATE_MOST, is_end, is_head};
+use crate::rosters::roster_faults;
 use outer_io::Memory;
-use roster_file::{Entries, LineCause, RosterFault, read_own_line, roster_faults};
+use roster_file::{Entries, LineCause, RosterFault, read_own_line};
+use state_file::{FileCause, Meters, STATE_MOST, StateFault, is_end, is_head};
 use std::alloc::Global;
 
 // Puts the lines behind the end behind the faults.
@@ -68,7 +67,7 @@ fn add_meter_faults(
 }
 
 // Puts the faulty ones of the own line and of those behind it behind the faults.
-#[tactic(auto, unfolding(crate::specs::Faults::faults_owned))]
+#[tactic(auto, unfolding(crate::specs::StateFaults::faults_owned))]
 fn add_owned_faults(
     alloc: Global,
     entries: &mut Entries<'_>,
@@ -110,7 +109,7 @@ fn faults_as_roster(alloc: Global, bytes: &[u8]) -> Result<Vec<StateFault>, Memo
 }
 
 /// Whether the first line that counts is the head of a state. Any other text is a roster, or none of both.
-#[tactic(auto, unfolding(crate::specs::Faults::is_state))]
+#[tactic(auto, unfolding(crate::specs::StateFaults::is_state))]
 pub fn is_state(bytes: &[u8]) -> bool
     requires { length bytes.now ≤ 134217728 }
     ensures { result ≡ is_state bytes.now }
@@ -124,7 +123,7 @@ pub fn is_state(bytes: &[u8]) -> bool
 /// Every faulty line of a state, in order, each with what is wrong with it; the first is that for which `read_state` refuses it. A faulty
 /// line is passed over and adds nothing; where it is to begin a meter, no meter's line stands above those below it. What hasn't the head of
 /// a state has the faulty lines of a roster.
-#[tactic(auto, unfolding(crate::specs::Faults::faults_headed, crate::specs::Faults::state_faults_of))]
+#[tactic(auto, unfolding(crate::specs::StateFaults::faults_headed, crate::specs::StateFaults::state_faults_of))]
 pub fn state_faults(alloc: Global, bytes: &[u8]) -> Result<Vec<StateFault>, Memory>
     ensures { IfOk result (λ faults. faults.items ≡ state_faults_of bytes.now) }
 {
@@ -147,13 +146,13 @@ pub fn state_faults(alloc: Global, bytes: &[u8]) -> Result<Vec<StateFault>, Memo
 }
 
 /// The first faulty line of a state is the one that reading it is refused for, so that no line is faulty exactly where it is read.
-#[tactic(auto, using(crate::proofs::AllFaults::first_fault_refuses))]
-pub fn first_fault_refuses()
+#[tactic(auto, using(crate::proofs::StateFaults::first_fault_refuses))]
+pub fn first_state_fault_refuses()
     ensures { FirstFaultRefuses }
 {}
 
 /// A text without the head of a state has the faulty lines that it has as a roster.
-#[tactic(auto, using(crate::proofs::AllFaults::others_are_rosters))]
+#[tactic(auto, using(crate::proofs::StateFaults::others_are_rosters))]
 pub fn rosters_are_judged_as_rosters()
     ensures { OthersAreRosters }
 {}

@@ -1,26 +1,26 @@
 use Rattle.std.proofs.Common.{◌∷◌, ◌++◌, [], ap, sym, ◌∙◌, append_assoc}
 use Rattle.state_file.specs.Whole.{at_line, read_more}
-use Rattle.state_file.specs.Faults.{faults_in}
-use Rattle.state_file.proofs.AllFaults.{named, left_there}
-use Rattle.state_file.proofs.StateLines.{lines_missing, lines_end, lines_by}
-use Rattle.state_file.proofs.all_faults.add_meter_faults.Goals as goal
+use Rattle.input_faults.specs.StateFaults.{faults_in}
+use Rattle.input_faults.proofs.StateFaults.{named, left_there}
+use Rattle.input_faults.proofs.StateLines.{lines_missing, lines_end, lines_by}
+use Rattle.input_faults.proofs.states.add_meter_faults.Goals as goal
 
 pub returns-in-Err : goal.returns-in-Err
 returns-in-Err c =
     c.in_ok-push-in-Err.ensures.items
     ∙ sym (c.lines.invariant ∙ ap (λ fs. c.lines.faults.items ++ fs)
-    (lines_missing _ _ _ _ c.in-Err.ensures.entry.0 c.in-Err.ensures.entry.1).1)
+    (lines_missing _ _ _ _ c.in-Err.ensures.entry.0 c.in-Err.ensures.entry.1))
 
 pub returns-then-is_end : goal.returns-then-is_end
 returns-then-is_end c =
     c.in_ok-add_behind.ensures
     ∙ sym (c.lines.invariant ∙ ap (λ fs. c.lines.faults.items ++ fs)
-    (lines_end _ _ _ _ _ c.in-Ok.ensures.entry (sym c.is_end.ensures ∙ c.if-is_end.true)).1)
+    (lines_end _ _ _ _ _ c.in-Ok.ensures.entry (sym c.is_end.ensures ∙ c.if-is_end.true)))
 
 pub lines-preserved-in-Ok-read : goal.lines-preserved-in-Ok-read
 lines-preserved-in-Ok-read c =
     c.lines.invariant ∙ ap (λ fs. c.lines.faults.items ++ fs)
-    ((lines_by _ _ _ _ _ _ c.in-Ok.ensures.entry (sym c.is_end.ensures ∙ c.if-is_end.false) c.in-Ok-read.ensures.ok).1
+    (lines_by _ _ _ _ _ _ c.in-Ok.ensures.entry (sym c.is_end.ensures ∙ c.if-is_end.false) c.in-Ok-read.ensures.ok
     ∙ ap (faults_in c.read.new.self c.next.new.self.entries) (sym c.in-Ok.ensures.end))
 
 pub lines-preserved : goal.lines-preserved
@@ -31,7 +31,7 @@ lines-preserved c =
     let left = left_there fault c.read.new.self _ other c.in-Err-read.ensures.left in
     let others = faults_in c.read.new.self c.next.new.self.entries c.next.new.self.end in
     c.lines.invariant ∙ ap (λ fs. c.lines.faults.items ++ fs)
-    ((lines_by _ _ _ _ _ _ c.in-Ok.ensures.entry (sym c.is_end.ensures ∙ c.if-is_end.false) (named read fault other c.in-Err-read.ensures.fault)).1
+    (lines_by _ _ _ _ _ _ c.in-Ok.ensures.entry (sym c.is_end.ensures ∙ c.if-is_end.false) (named read fault other c.in-Err-read.ensures.fault)
     ∙ ap (λ p. fault ∷ faults_in p c.next.new.self.entries c.lines.entries.end) (sym left)
     ∙ ap (λ n. fault ∷ faults_in c.read.new.self c.next.new.self.entries n) (sym c.in-Ok.ensures.end))
     ∙ sym (append_assoc c.lines.faults.items (fault ∷ []) others) ∙ ap (λ fs. fs ++ others) (sym c.in_ok-add_fault-in-Err-read.ensures.added)

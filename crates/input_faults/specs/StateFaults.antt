@@ -1,14 +1,14 @@
 -- Every faulty line of a state.
 use Rattle.std.specs.Prelude.{ℕ, ◌≡◌, ◌+◌, nat_lt, Bool, false, List, [], ◌∷◌, length, map, codes, Option, Some, None, Result, Ok, Err, if◌then◌else◌}
 use Rattle.std.specs.Str.Lines.{lines}
-use Rattle.plain_text.specs.Parts.{fields_of, is_word}
+use Rattle.plain_text.specs.Parts.{is_word}
 use Rattle.roster_file.specs.declared.roster.LineCause.TheVariants as roster
 use Rattle.roster_file.specs.Roster.{entries_from, own_of}
-use Rattle.roster_file.specs.Faults as rosters
+use Rattle.input_faults.specs.RosterFaults as rosters
 use Rattle.state_file.specs.declared.fault.FileCause.TheVariants as causes
 use Rattle.state_file.specs.declared.fault.StateFault.{StateFault}
 use Rattle.state_file.specs.declared.fault.StateFault.TheVariants.{Roster, Line}
-use Rattle.state_file.specs.Whole.{Progress, all_of, at_line, by_fault, by_roster, no_meters, opens_meter, read_more, state_of}
+use Rattle.state_file.specs.Whole.{Progress, at_line, by_fault, by_roster, left_by, no_meters, read_more, state_of}
 
 -- what a step refuses, if it does
 abbrev pub refused : {A : Type 0} → Result A StateFault → Option StateFault
@@ -19,14 +19,6 @@ refused (Err fault) = Some fault
 abbrev pub before : Option StateFault → List StateFault → List StateFault
 before None others = others
 before (Some fault) others = fault ∷ others
-
--- no more lines of the last meter follow
-abbrev pub closed : Progress → Progress
-closed p = record { before = all_of p; last = None }
-
--- what a faulty line leaves: it adds nothing, and where it is to begin a meter the lines below it are of none
-abbrev pub left_by : Progress → List ℕ → Progress
-left_by p line = if opens_meter (fields_of line) then closed p else p
 
 -- the meters that a line leaves go on to the others; behind a faulty line others go on
 abbrev pub going_on : Result Progress StateFault → Progress → (Progress → List StateFault) → List StateFault

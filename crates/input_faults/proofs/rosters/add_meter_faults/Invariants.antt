@@ -1,6 +1,6 @@
 use Rattle.std.proofs.Common.{◌≡◌, [], ◌++◌, length}
-use Rattle.roster_file.specs.Faults.{faults_in}
-use Rattle.roster_file.proofs.all_faults.add_meter_faults.Given as goal
+use Rattle.input_faults.specs.RosterFaults.{faults_in}
+use Rattle.input_faults.proofs.rosters.add_meter_faults.Given as goal
 
 abbrev pub invariant-lines : goal.invariant-lines
 invariant-lines l =

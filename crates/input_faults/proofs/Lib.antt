@@ -1,0 +1,3 @@
+pub mod RosterFaults
+pub mod StateFaults
+pub mod StateLines

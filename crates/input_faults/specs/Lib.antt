@@ -1,0 +1,2 @@
+pub mod RosterFaults
+pub mod StateFaults
