@@ -29,7 +29,7 @@ use Rattle.collector_main.specs.Begin.{known_of}
 use Rattle.collector_main.specs.Heard.{Heard, receiver_end}
 use Rattle.collector_main.specs.MadeRun.{heard_whole, heard_texts}
 use Rattle.collector_main.specs.Ready.{HaveHeard, HearsText, IsMadeTogether}
-use Rattle.collector_main.specs.Showing.{IsFresh}
+use Rattle.receivers.specs.Receiver.{IsFresh}
 use Rattle.collector_main.proofs.ManyReceivers.{IsEnd, all_found, each_known, each_short, ends_are, runs_known, runs_ended, runs_many}
 use Rattle.collector_main.proofs.Runs.{whole_end}
 use Rattle.collector_main.proofs.Orders.{order_is_told}

@@ -43,7 +43,8 @@ use Rattle.collector_main.specs.Heard.{Heard, left_known, next_text, next_of, re
 use Rattle.collector_main.specs.Ready.{IsEndOf, HaveHeard}
 use Rattle.collector_main.specs.declared.together.HeardTogether.{HeardTogether}
 use Rattle.collector_main.specs.Run.{Run, Output, IsRun, EndsSo, HasEnded, IsWhole, IsUnwritten, EndIsCaused, IsCausedBy}
-use Rattle.collector_main.specs.Showing.{IsFresh, all_outputs}
+use Rattle.receivers.specs.Receiver.{IsFresh}
+use Rattle.collector_main.specs.Showing.{all_outputs}
 use Rattle.collector_main.specs.Statuses.{IsUnread, was_heard, status_at, stop_at, stop_from, status_after, unwritten, Wrote}
 use Rattle.collector_main.proofs.Orders.{with_meet, order_is_told}
 use Rattle.collector_main.proofs.Runs.{end_caused, whole_end}

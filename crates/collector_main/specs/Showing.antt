@@ -1,7 +1,6 @@
 -- What the values of a call show of a run.
-use Rattle.std.specs.Prelude.{ℕ, ◌≡◌, Bool, true, false, List, [], ◌∷◌, None, Result, Ok, Err}
+use Rattle.std.specs.Prelude.{ℕ, Bool, true, false, List, [], ◌∷◌, Result, Ok, Err}
 use Rattle.outer_io.specs.Shown.{Change, SinkShown}
-use Rattle.receivers.specs.Receiver.{Receiving}
 use Rattle.collector_main.specs.declared.form.Form.{Form}
 use Rattle.collector_main.specs.declared.form.Form.TheVariants as forms
 use Rattle.wmbus_words.specs.declared.asked.Plan.{Plan}
@@ -10,10 +9,6 @@ use Rattle.wmbus_words.specs.declared.asked.WordsFault.{WordsFault}
 use Rattle.collector_main.specs.Heard.{report_of, next_of, readings_of}
 use Rattle.collector_main.specs.MadeRun.{made_outputs}
 use Rattle.collector_main.specs.Run.{Output}
-
--- a receiver whose one run is still to come
-abbrev pub IsFresh : {S K : Type 0} → Receiving S K → Type 0
-IsFresh r = r.ended ≡ None
 
 -- the report, which is sink 3
 abbrev pub report_output : Change SinkShown → Output
@@ -27,13 +22,6 @@ all_outputs form next readings report =
       text = readings_of;
       sink = readings;
     } ∷ report_output report ∷ []
-
--- how many receivers a plan names
-abbrev pub receiver_count : Plan → ℕ
-receiver_count plans.Hear = 1
-receiver_count (plans.Collect count) = count
-receiver_count (plans.Continue count) = count
-receiver_count (plans.Made meters telegrams number) = 0
 
 -- the text that a plan's session begins from, and leaves
 abbrev pub form_of : Plan → Form

@@ -7,7 +7,8 @@ ghost use Rattle.report_text.specs.Readings.{readings_text};
 ghost use Rattle.report_text.specs.Report.{meter_text, report_text};
 ghost use Rattle.collector_main.specs.Heard.{next_text};
 ghost use Rattle.collector_main.specs.Run.{IsRun};
-ghost use Rattle.collector_main.specs.Showing.{IsFresh, all_outputs};
+ghost use Rattle.receivers.specs.Receiver.{IsFresh};
+ghost use Rattle.collector_main.specs.Showing.{all_outputs};
 ghost use Rattle.collector_main.specs.Statuses.{IsUnread, Wrote};
 
 use crate::at_once::{let_go, parts_made};

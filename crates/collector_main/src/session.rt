@@ -5,7 +5,8 @@ ghost use Rattle.receivers.specs.Run.{receiver_run};
 ghost use Rattle.report_text.specs.Report.{report_text};
 ghost use Rattle.collector_main.specs.declared.form.Form.TheVariants.{State as AState};
 ghost use Rattle.collector_main.specs.Run.{IsRun};
-ghost use Rattle.collector_main.specs.Showing.{IsFresh, report_output};
+ghost use Rattle.receivers.specs.Receiver.{IsFresh};
+ghost use Rattle.collector_main.specs.Showing.{report_output};
 ghost use Rattle.collector_main.specs.Statuses.{IsUnread, IsFinished, status_at, after_failed_write};
 
 use crate::begin::known;

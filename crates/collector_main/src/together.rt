@@ -3,7 +3,7 @@ ghost use Rattle.std.specs.Prelude.{◌<◌, ◌^◌, IfOk, vec_len};
 ghost use Rattle.lists.specs.Each.{Each};
 ghost use Rattle.state_file.specs.Rooms.{HasRoom};
 ghost use Rattle.collector_main.specs.Ready.{HaveHeard};
-ghost use Rattle.collector_main.specs.Showing.{IsFresh};
+ghost use Rattle.receivers.specs.Receiver.{IsFresh};
 
 use crate::stops::ends_of;
 use meter_address::Address;

@@ -4,7 +4,9 @@ ghost use Rattle.roster_file.specs.Roster.{enlisted_from};
 ghost use Rattle.input_faults.specs.RosterFaults.{before, faults_in, faults_owned, faults_headed, faults_of, FirstFaultRefuses};
 
 use outer_io::Memory;
-use roster_file::{Entries, LineCause, MOST_BYTES, RosterFault, Version, next_meter, read_own_line, version_of};
+use roster_file::{
+    Entries, LineCause, MOST_BYTES, RosterFault, Version, next_meter, read_own_line, version_of,
+};
 use std::alloc::Global;
 
 // Puts the faulty ones of the meters' lines that are left behind the faults.

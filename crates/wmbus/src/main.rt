@@ -6,16 +6,13 @@ ghost use Rattle.std.specs.String.{string_bytes};
 ghost use Rattle.std.specs.Process.{exit_status};
 ghost use Rattle.wmbus_words.specs.Words.{asked_of, plan_of};
 ghost use Rattle.program_words.specs.OwnTexts.{asks_for_text, IsTold};
-ghost use Rattle.wmbus.specs.Exit.{IsExitOf, IsSessionExit, IsStepsExit};
+ghost use Rattle.wmbus_files.specs.Unopened.{IsUnopened};
+ghost use Rattle.wmbus.specs.Exit.{IsExitOf, IsSessionExit, IsStepsExit, IsUnopenedExit};
 
-mod files;
-mod nodes;
 mod session;
 mod stepwise;
-mod watched;
 
 use collector_main::Status;
-use files::{Opened, StepsFiles, open_apart, open_steps_apart};
 use line_reader::TextReader;
 use outer_io::{StdSink, StdSource};
 use program_words::{NoWords, command_words, own_text, tell};
@@ -26,6 +23,7 @@ use std::sync::Wait;
 use std::thread::Threads;
 use steps_main::LINE_MAX;
 use stepwise::step_over;
+use wmbus_files::{Opened, StepsFiles, Unopened, open_apart, open_steps_apart};
 use wmbus_words::{Asked, Plan, StepsPlan, WordsFault, asks_for};
 
 const HELP: &str = "wmbus: a collector for wireless M-Bus and OMS meters
@@ -84,6 +82,17 @@ it; docs/wmbus.1 is the man page.
 
 const VERSION: &str = "wmbus 0.1.0\n";
 
+// Ends a run that can't begin.
+fn end_unopened(rt: &impl Eprint, unopened: Unopened) -> ExitCode
+    requires { IsUnopened unopened }
+    ensures { IsUnopenedExit (exit_status result) }
+{
+    match unopened {
+        Unopened::Said(code) => code,
+        Unopened::Memory => end(rt, Status::Memory),
+    }
+}
+
 // Runs a plan over the files that the words name.
 fn run_plan<R: Threads + Wait + Sync + Eprint + Files<File = File> + AllocGlobal>(
     rt: &R,
@@ -111,7 +120,7 @@ fn run_plan<R: Threads + Wait + Sync + Eprint + Files<File = File> + AllocGlobal
             &mut readings,
             &mut report,
         ),
-        Err(code) => code,
+        Err(unopened) => end_unopened(rt, unopened),
     }
 }
 
@@ -137,7 +146,7 @@ fn run_steps<R: Eprint + Files<File = File> + AllocGlobal>(
             let mut receiver = TextReader::new(receiver, LINE_MAX);
             step_over(rt, &mut beginning, &mut receiver, &mut next, &mut out, room)
         }
-        Err(code) => code,
+        Err(unopened) => end_unopened(rt, unopened),
     }
 }
 

@@ -5,14 +5,15 @@ ghost use Rattle.std.specs.Process.{exit_status};
 ghost use Rattle.lists.specs.Each.{Each};
 ghost use Rattle.outer_io.specs.Shown.{source_change, sink_change};
 ghost use Rattle.made_input.specs.Made.{made};
+ghost use Rattle.receivers.specs.Receiver.{IsFresh};
 ghost use Rattle.receivers.specs.Run.{receiver_runs};
 ghost use Rattle.collector_main.specs.declared.status.Status.{Status as RunStatus};
 ghost use Rattle.collector_main.specs.MadeRun.{IsMadeRun, made_outputs};
 ghost use Rattle.collector_main.specs.Run.{IsRun};
-ghost use Rattle.collector_main.specs.Showing.{IsFresh, IfMade, form_of, receiver_count, hears, collects};
+ghost use Rattle.collector_main.specs.Showing.{IfMade, form_of, hears, collects};
 ghost use Rattle.collector_main.specs.Showing.{asks_for_readings, sends_downlinks, outputs_of};
 ghost use Rattle.collector_main.specs.Statuses.{code_of};
-ghost use Rattle.wmbus_words.specs.Words.{plan_of};
+ghost use Rattle.wmbus_words.specs.Words.{plan_of, receiver_count};
 ghost use Rattle.wmbus.specs.Exit.{IsSessionExit};
 
 use collector_main::{Receiver, Status, run};

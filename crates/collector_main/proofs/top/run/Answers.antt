@@ -12,7 +12,8 @@ use Rattle.collector_main.specs.declared.status.Status.{Status}
 use Rattle.collector_main.specs.declared.status.Status.TheVariants as statuses
 use Rattle.collector_main.specs.MadeRun.{MadeRun, IsMadeRun, IsMadeCause}
 use Rattle.collector_main.specs.Run.{Run, Output, IsRun, IsCausedBy}
-use Rattle.collector_main.specs.Showing.{IsFresh, collects, asks_for_readings}
+use Rattle.receivers.specs.Receiver.{IsFresh}
+use Rattle.collector_main.specs.Showing.{collects, asks_for_readings}
 use Rattle.collector_main.proofs.top.run.Goals as goal
 
 -- what is said of the words' plan, where they ask for this one

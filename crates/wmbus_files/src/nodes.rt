@@ -1,12 +1,20 @@
 //! Files that several words name.
 ghost use Rattle.std.specs.Prelude.{IfErr};
-ghost use Rattle.std.specs.Process.{exit_status};
-ghost use Rattle.wmbus.specs.Exit.{IsUnopened};
+ghost use Rattle.wmbus_files.specs.Unopened.{IsUnopened};
 
 use std::fs::{File, Files};
 use std::os::unix::fs::MetadataExt;
 use std::process::ExitCode;
 use wmbus_words::{Plan, StepsPlan, is_written};
+
+/// Why a session or steps can't begin.
+#[derive(Drop)]
+pub enum Unopened {
+    /// A file can't be opened, or two words name it: that was said, and this is the exit status.
+    Said(ExitCode),
+    /// There is no memory.
+    Memory,
+}
 
 /// Where a regular file lies, whatever names it.
 #[derive(Clone, Copy, PartialEq, Eq)]
@@ -56,11 +64,11 @@ fn named_twice<'a, R: Files<File = File>>(rt: &R, names: &'a [String]) -> Option
 }
 
 // Refuses the file of this name.
-fn named_twice_exit(rt: &impl Eprint, name: &str) -> ExitCode
-    ensures { IsUnopened (exit_status result) }
+fn refuse(rt: &impl Eprint, name: &str) -> Unopened
+    ensures { IsUnopened result }
 {
     let _ = eprintln!(rt; "wmbus: the file {name} is named twice");
-    ExitCode::from(11)
+    Unopened::Said(ExitCode::from(11))
 }
 
 /// Refuses a session in threads of which two words name one regular file that is written, and says which.
@@ -68,13 +76,13 @@ pub(crate) fn differ<R: Eprint + Files<File = File>>(
     rt: &R,
     command: &[String],
     plan: Plan,
-) -> Result<(), ExitCode>
-    ensures { IfErr result (λ code. IsUnopened (exit_status code)) }
+) -> Result<(), Unopened>
+    ensures { IfErr result IsUnopened }
 {
     match (plan, command) {
         (Plan::Collect(_) | Plan::Continue(_), [_, names @ ..]) => match named_twice(rt, names) {
             None => Ok(()),
-            Some(name) => Err(named_twice_exit(rt, name)),
+            Some(name) => Err(refuse(rt, name)),
         },
         _ => Ok(()),
     }
@@ -96,8 +104,8 @@ pub(crate) fn next_differs<R: Eprint + Files<File = File>>(
     state: &str,
     next: &str,
     rx: &str,
-) -> Result<(), ExitCode>
-    ensures { IfErr result (λ code. IsUnopened (exit_status code)) }
+) -> Result<(), Unopened>
+    ensures { IfErr result IsUnopened }
 {
     if !plan.leaves_next {
         return Ok(());
@@ -106,10 +114,10 @@ pub(crate) fn next_differs<R: Eprint + Files<File = File>>(
         return Ok(());
     };
     if node_of(rt, state) == Some(node) {
-        return Err(named_twice_exit(rt, next));
+        return Err(refuse(rt, next));
     }
     if plan.hears_file && node_of(rt, rx) == Some(node) {
-        return Err(named_twice_exit(rt, next));
+        return Err(refuse(rt, next));
     }
     Ok(())
 }

@@ -1,7 +1,7 @@
 use Rattle.std.proofs.Common.{◌≡◌, ◌-◌, ◌/◌, ◌∙◌, length, drop, take, vec_len, ap}
 use Rattle.std.proofs.lemmas.List.{length-drop, take_rest}
-use Rattle.wmbus.proofs.Plans.{counted_so}
-use Rattle.wmbus.proofs.files.open_named.Goals as goal
+use Rattle.wmbus_files.proofs.Plans.{counted_so}
+use Rattle.wmbus_files.proofs.files.open_named.Goals as goal
 
 pub returns-clause-count : goal.returns-clause-count
 returns-clause-count g c =

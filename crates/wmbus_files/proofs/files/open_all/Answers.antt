@@ -1,9 +1,9 @@
 use Rattle.std.proofs.Common.{◌≡◌, ◌-◌, ◌/◌, ◌∙◌, length, map, vec_len, sym, ap, subst, arith}
 use Rattle.std.specs.String.{string_bytes}
 use Rattle.std.proofs.lemmas.List.{length-map}
-use Rattle.collector_main.specs.Showing.{receiver_count}
-use Rattle.wmbus.proofs.Plans.{IsCounted, words_counted, counted_so}
-use Rattle.wmbus.proofs.files.open_all.Goals as goal
+use Rattle.wmbus_words.specs.Words.{receiver_count}
+use Rattle.wmbus_files.proofs.Plans.{IsCounted, words_counted, counted_so}
+use Rattle.wmbus_files.proofs.files.open_all.Goals as goal
 
 pub bounds-command-1 : goal.bounds-command-1
 bounds-command-1 g c =

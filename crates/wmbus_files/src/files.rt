@@ -1,20 +1,17 @@
 //! The files that the words name.
 ghost use Rattle.std.specs.Prelude.{◌≡◌, ◌+◌, ◌-◌, ◌/◌, ◌≤◌, Ok, length, map, vec_len, IfOk, IfErr, OnOk};
 ghost use Rattle.std.specs.String.{string_bytes};
-ghost use Rattle.std.specs.Process.{exit_status};
 ghost use Rattle.lists.specs.Each.{Each};
-ghost use Rattle.collector_main.specs.Showing.{IsFresh, receiver_count};
-ghost use Rattle.wmbus_words.specs.Words.{plan_of};
-ghost use Rattle.wmbus.specs.Exit.{IsUnopened};
+ghost use Rattle.receivers.specs.Receiver.{IsFresh};
+ghost use Rattle.wmbus_words.specs.Words.{plan_of, receiver_count};
+ghost use Rattle.wmbus_files.specs.Unopened.{IsUnopened};
 
-use crate::nodes::{differ, next_differs, room_of};
-use crate::session::end;
+use crate::nodes::{Unopened, differ, next_differs, room_of};
 use crate::watched::WatchedSource;
-use collector_main::{Receiver, Status};
 use outer_io::{StdSink, StdSource};
 use program_words::{open_to_read, open_to_write};
+use receivers::Receiver;
 use std::fs::{File, Files};
-use std::process::ExitCode;
 use wmbus_words::{Plan, StepsPlan};
 
 const PROGRAM: &str = "wmbus";
@@ -26,24 +23,31 @@ const PRIVATE: u32 = 0o600;
 
 /// What a plan reads and writes but for the report.
 #[derive(Drop)]
-pub(crate) struct Opened<'r, R: Eprint> {
-    pub(crate) beginning: WatchedSource<'r, R>,
-    pub(crate) next: StdSink,
-    pub(crate) readings: StdSink,
-    pub(crate) receivers: Receivers<'r, R>,
+pub struct Opened<'r, R: Eprint> {
+    /// What the session begins from.
+    pub beginning: WatchedSource<'r, R>,
+    /// What is left for the next session.
+    pub next: StdSink,
+    /// Each meter's last reading.
+    pub readings: StdSink,
+    /// The receivers, in the order of the words.
+    pub receivers: Receivers<'r, R>,
 }
 
 /// The receivers of a plan.
-type Receivers<'r, R> = Vec<Receiver<WatchedSource<'r, R>, StdSink>>;
+pub type Receivers<'r, R> = Vec<Receiver<WatchedSource<'r, R>, StdSink>>;
 
 /// What `steps` reads and writes but for what is told.
 #[derive(Drop)]
-pub(crate) struct StepsFiles {
-    pub(crate) beginning: StdSource,
-    pub(crate) next: StdSink,
-    pub(crate) receiver: StdSource,
-    // How many bytes of what is told may wait.
-    pub(crate) room: usize,
+pub struct StepsFiles {
+    /// What the session begins from.
+    pub beginning: StdSource,
+    /// What is left for the next session, or nothing.
+    pub next: StdSink,
+    /// The receiver's lines.
+    pub receiver: StdSource,
+    /// How many bytes of what is told may wait.
+    pub room: usize,
 }
 
 // Files that take numbers of standard streams with which the program was started closed. A file that was opened before and these take all of
@@ -56,26 +60,43 @@ fn taken_streams<R: Files<File = File>>(rt: &R) -> (Option<File>, Option<File>) 
     )
 }
 
-fn no_memory(rt: &impl Eprint) -> ExitCode
-    ensures { IsUnopened (exit_status result) }
+// Opens a file that is read. Where it can't be opened that is said.
+fn read_from<R: Eprint + Files<File = File>>(rt: &R, name: &str) -> Result<StdSource, Unopened>
+    ensures { IfErr result IsUnopened }
 {
-    end(rt, Status::Memory)
+    match open_to_read(rt, PROGRAM, name) {
+        Ok(source) => Ok(source),
+        Err(code) => Err(Unopened::Said(code)),
+    }
+}
+
+// Opens a file that is written, and makes it empty. Where it can't be opened that is said.
+fn write_to<R: Eprint + Files<File = File>>(
+    rt: &R,
+    name: &str,
+    permissions: u32,
+) -> Result<StdSink, Unopened>
+    ensures { IfErr result IsUnopened }
+{
+    match open_to_write(rt, PROGRAM, name, permissions) {
+        Ok(sink) => Ok(sink),
+        Err(code) => Err(Unopened::Said(code)),
+    }
 }
 
 // One more receiver, over a source of which nothing was taken.
 fn add_receiver<'r, R: Eprint>(
-    rt: &'r R,
     receivers: &mut Receivers<'r, R>,
     rx: WatchedSource<'r, R>,
     tx: StdSink,
-) -> Result<(), ExitCode>
+) -> Result<(), Unopened>
     requires { Each IsFresh receivers.old.items }
     ensures fresh { OnOk result (Each IsFresh receivers.new.items) }
     ensures one_more { OnOk result (length receivers.new.items ≡ length receivers.old.items + 1) }
-    ensures unopened { IfErr result (λ code. IsUnopened (exit_status code)) }
+    ensures unopened { IfErr result IsUnopened }
 {
     if receivers.push(Receiver::new(rx, tx)).is_err() {
-        return Err(no_memory(rt));
+        return Err(Unopened::Memory);
     }
     Ok(())
 }
@@ -100,23 +121,18 @@ fn add_receivers<'r, R: Eprint + Files<File = File>>(
     receivers: &mut Receivers<'r, R>,
     names: &[String],
     several: bool,
-) -> Result<(), ExitCode>
+) -> Result<(), Unopened>
     requires { Each IsFresh receivers.old.items }
     ensures fresh { OnOk result (Each IsFresh receivers.new.items) }
     ensures more { OnOk result (length receivers.new.items ≡ length receivers.old.items + length names.now / 2) }
-    ensures unopened { IfErr result (λ code. IsUnopened (exit_status code)) }
+    ensures unopened { IfErr result IsUnopened }
 {
     let [rx, tx, later @ ..] = names else {
         return Ok(());
     };
-    let rx = watched(
-        rt,
-        receivers,
-        open_to_read(rt, PROGRAM, rx.as_str())?,
-        several,
-    );
-    let tx = open_to_write(rt, PROGRAM, tx.as_str(), PLAIN)?;
-    add_receiver(rt, receivers, rx, tx)?;
+    let rx = watched(rt, receivers, read_from(rt, rx.as_str())?, several);
+    let tx = write_to(rt, tx.as_str(), PLAIN)?;
+    add_receiver(receivers, rx, tx)?;
     add_receivers(rt, receivers, later, several)
 }
 
@@ -125,15 +141,15 @@ fn open_hear<'r, R: Eprint + Files<File = File> + AllocGlobal>(
     rt: &'r R,
     beginning: &str,
     rx: &str,
-) -> Result<Opened<'r, R>, ExitCode>
+) -> Result<Opened<'r, R>, Unopened>
     ensures fresh { IfOk result (λ files. Each IsFresh files.receivers.items) }
     ensures count { IfOk result (λ files. vec_len files.receivers ≡ 1) }
-    ensures unopened { IfErr result (λ code. IsUnopened (exit_status code)) }
+    ensures unopened { IfErr result IsUnopened }
 {
-    let beginning = WatchedSource::silent(rt, open_to_read(rt, PROGRAM, beginning)?);
-    let rx = WatchedSource::silent(rt, open_to_read(rt, PROGRAM, rx)?);
+    let beginning = WatchedSource::silent(rt, read_from(rt, beginning)?);
+    let rx = WatchedSource::silent(rt, read_from(rt, rx)?);
     let mut receivers = Vec::new(rt.alloc());
-    add_receiver(rt, &mut receivers, rx, StdSink::nothing())?;
+    add_receiver(&mut receivers, rx, StdSink::nothing())?;
     Ok(Opened {
         beginning,
         next: StdSink::nothing(),
@@ -150,15 +166,15 @@ fn open_receivers<'r, R: Eprint + Files<File = File> + AllocGlobal>(
     next: &str,
     readings: &str,
     names: &[String],
-) -> Result<Opened<'r, R>, ExitCode>
+) -> Result<Opened<'r, R>, Unopened>
     ensures fresh { IfOk result (λ files. Each IsFresh files.receivers.items) }
     ensures count { IfOk result (λ files. vec_len files.receivers ≡ length names.now / 2) }
-    ensures unopened { IfErr result (λ code. IsUnopened (exit_status code)) }
+    ensures unopened { IfErr result IsUnopened }
 {
-    let beginning = WatchedSource::silent(rt, open_to_read(rt, PROGRAM, beginning)?);
+    let beginning = WatchedSource::silent(rt, read_from(rt, beginning)?);
     let _streams = taken_streams(rt);
-    let next = open_to_write(rt, PROGRAM, next, PRIVATE)?;
-    let readings = open_to_write(rt, PROGRAM, readings, PLAIN)?;
+    let next = write_to(rt, next, PRIVATE)?;
+    let readings = write_to(rt, readings, PLAIN)?;
     let mut receivers = Vec::new(rt.alloc());
     add_receivers(rt, &mut receivers, names, names.len() > 2)?;
     Ok(Opened {
@@ -173,11 +189,11 @@ fn open_receivers<'r, R: Eprint + Files<File = File> + AllocGlobal>(
 fn open_named<'r, R: Eprint + Files<File = File> + AllocGlobal>(
     rt: &'r R,
     command: &[String],
-) -> Result<Opened<'r, R>, ExitCode>
+) -> Result<Opened<'r, R>, Unopened>
     requires { 6 ≤ length command.now }
     ensures fresh { IfOk result (λ files. Each IsFresh files.receivers.items) }
     ensures count { IfOk result (λ files. vec_len files.receivers ≡ (length command.now - 4) / 2) }
-    ensures unopened { IfErr result (λ code. IsUnopened (exit_status code)) }
+    ensures unopened { IfErr result IsUnopened }
 {
     match command {
         [_, beginning, next, readings, names @ ..] => open_receivers(
@@ -210,11 +226,11 @@ fn open_all<'r, R: Eprint + Files<File = File> + AllocGlobal>(
     rt: &'r R,
     command: &[String],
     plan: Plan,
-) -> Result<Opened<'r, R>, ExitCode>
+) -> Result<Opened<'r, R>, Unopened>
     requires { plan_of (map string_bytes command.now) ≡ Ok plan }
     ensures fresh { IfOk result (λ files. Each IsFresh files.receivers.items) }
     ensures count { IfOk result (λ files. vec_len files.receivers ≡ receiver_count plan) }
-    ensures unopened { IfErr result (λ code. IsUnopened (exit_status code)) }
+    ensures unopened { IfErr result IsUnopened }
 {
     match plan {
         Plan::Hear => open_hear(rt, command[1].as_str(), command[2].as_str()),
@@ -227,15 +243,15 @@ fn open_all<'r, R: Eprint + Files<File = File> + AllocGlobal>(
 /// Opens the files that the words name, in their order; those that are written are made empty. What can't be opened is said, and is
 /// status 11; want of memory is 10. Where two words name one file nothing is made empty; where they name one that is only then made, it
 /// stays empty.
-pub(crate) fn open_apart<'r, R: Eprint + Files<File = File> + AllocGlobal>(
+pub fn open_apart<'r, R: Eprint + Files<File = File> + AllocGlobal>(
     rt: &'r R,
     command: &[String],
     plan: Plan,
-) -> Result<Opened<'r, R>, ExitCode>
+) -> Result<Opened<'r, R>, Unopened>
     requires { plan_of (map string_bytes command.now) ≡ Ok plan }
     ensures fresh { IfOk result (λ files. Each IsFresh files.receivers.items) }
     ensures count { IfOk result (λ files. vec_len files.receivers ≡ receiver_count plan) }
-    ensures unopened { IfErr result (λ code. IsUnopened (exit_status code)) }
+    ensures unopened { IfErr result IsUnopened }
 {
     differ(rt, command, plan)?;
     let files = open_all(rt, command, plan)?;
@@ -252,18 +268,18 @@ fn open_steps<R: Eprint + Files<File = File>>(
     next: &str,
     rx: &str,
     input: StdSource,
-) -> Result<StepsFiles, ExitCode>
-    ensures { IfErr result (λ code. IsUnopened (exit_status code)) }
+) -> Result<StepsFiles, Unopened>
+    ensures { IfErr result IsUnopened }
 {
-    let beginning = open_to_read(rt, PROGRAM, state)?;
+    let beginning = read_from(rt, state)?;
     let _streams = taken_streams(rt);
     let next = if plan.leaves_next {
-        open_to_write(rt, PROGRAM, next, PRIVATE)?
+        write_to(rt, next, PRIVATE)?
     } else {
         StdSink::nothing()
     };
     let receiver = if plan.hears_file {
-        open_to_read(rt, PROGRAM, rx)?
+        read_from(rt, rx)?
     } else {
         input
     };
@@ -283,8 +299,8 @@ fn open_different<R: Eprint + Files<File = File>>(
     next: &str,
     rx: &str,
     input: StdSource,
-) -> Result<StepsFiles, ExitCode>
-    ensures { IfErr result (λ code. IsUnopened (exit_status code)) }
+) -> Result<StepsFiles, Unopened>
+    ensures { IfErr result IsUnopened }
 {
     next_differs(rt, plan, state, next, rx)?;
     let files = open_steps(rt, plan, state, next, rx, input)?;
@@ -294,14 +310,14 @@ fn open_different<R: Eprint + Files<File = File>>(
 
 /// Opens the files that the words of `steps` name, in their order; NEXT is made empty. What can't be opened, and a name that leads to the
 /// file NEXT as well, is said, and is status 11.
-pub(crate) fn open_steps_apart<R: Eprint + Files<File = File>>(
+pub fn open_steps_apart<R: Eprint + Files<File = File>>(
     rt: &R,
     command: &[String],
     plan: StepsPlan,
     input: StdSource,
-) -> Result<StepsFiles, ExitCode>
+) -> Result<StepsFiles, Unopened>
     requires { length command.now ≡ 4 }
-    ensures { IfErr result (λ code. IsUnopened (exit_status code)) }
+    ensures { IfErr result IsUnopened }
 {
     match command {
         [_, state, next, rx] => {

@@ -41,7 +41,7 @@ impl Taken {
 /// A file or a pipe that is read. Where it is one receiver of several, it says once on the standard error that the receiver went past its
 /// limit: its other lines aren't heard any more, and the session goes on until the others end.
 #[derive(Drop)]
-pub(crate) struct WatchedSource<'r, R> {
+pub struct WatchedSource<'r, R> {
     rt: &'r R,
     source: StdSource,
     // The number of the receiver, from 1, as long as it has something to say.
@@ -51,7 +51,7 @@ pub(crate) struct WatchedSource<'r, R> {
 
 impl<'r, R: Eprint> WatchedSource<'r, R> {
     /// A source that says nothing.
-    pub(crate) fn silent(rt: &'r R, source: StdSource) -> WatchedSource<'r, R> {
+    pub fn silent(rt: &'r R, source: StdSource) -> WatchedSource<'r, R> {
         WatchedSource {
             rt,
             source,
@@ -61,11 +61,7 @@ impl<'r, R: Eprint> WatchedSource<'r, R> {
     }
 
     /// The source of the receiver with this number, from 1, of several.
-    pub(crate) fn of_receiver(
-        rt: &'r R,
-        source: StdSource,
-        receiver: usize,
-    ) -> WatchedSource<'r, R> {
+    pub fn of_receiver(rt: &'r R, source: StdSource, receiver: usize) -> WatchedSource<'r, R> {
         WatchedSource {
             rt,
             source,
