@@ -5,6 +5,7 @@ pub mod CommandsBack
 pub mod ReadBack
 pub mod WholeBack
 pub mod WholeLength
+pub mod SpeltParts
 pub mod StateLines
 pub mod StatePieces
 pub mod Telling

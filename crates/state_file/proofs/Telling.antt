@@ -1,8 +1,9 @@
 -- What is known of a meter can be told.
-use Rattle.std.proofs.Common.{◌≡◌, ℕ, ◌+◌, ◌<◌, ◌^◌, map, ◌≤◌, List, [], ◌∷◌, length, take, filter, not, Bool, true, false, cond, refl, sym, subst, ◌∙◌, arith, length-append}
+use Rattle.std.proofs.Common.{◌≡◌, ℕ, ◌+◌, ◌<◌, ◌^◌, map, ◌≤◌, List, [], ◌∷◌, length, take, slice_get, get_or, filter, not, Bool, true, false, cond, refl, sym, subst, ◌∙◌, arith, length-append}
 use Rattle.std.specs.Prelude.{IfSome}
 use Rattle.std.specs.List.{All}
 use Rattle.std.proofs.lemmas.List.{take_all}
+use Rattle.std.proofs.lemmas.Option.{slice_get-get_or}
 use Rattle.std.proofs.lemmas.List.Elements.{All-head, All-tail}
 use Rattle.lists.specs.Each.{Each}
 use Rattle.lists.proofs.Members.{each_append}
@@ -32,6 +33,10 @@ each_of P (x ∷ xs) all = (All-head P x xs all, each_of P xs (All-tail P x xs a
 -- what holds of as many as there are
 pub all_taken : {X : Type 0} (P : X → Type 0) (xs : List X) (n : ℕ) → length xs ≤ n → All P (take n xs) → All P xs
 all_taken P xs n all h = subst (All P) (take_all n xs all) h
+
+-- what holds of the one at a place
+pub at_place : {X : Type 0} (P : X → Type 0) (xs : List X) (i : ℕ) (x : X) → i < length xs → x ≡ get_or xs i x → P x → IfSome (slice_get xs i) P
+at_place P xs i x within is holds = rw (slice_get-get_or xs i x within) (subst P is holds)
 
 -- what is made of each
 pub each_made : {A B : Type 0} (P : A → Type 0) (Q : B → Type 0) (f : A → B) → ((x : A) → P x → Q (f x)) → (xs : List A) → Each P xs
