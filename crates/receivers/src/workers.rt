@@ -76,7 +76,14 @@ pub fn work_all<
         rt,
         workers.as_mut_slice(),
         count,
-        &|_, worker| {
+        &|_, worker|
+            requires places { length directory.now ≡ length cells.now }
+            requires can { CanWork cells.now strangers.now worker.now.receiver.ended (crew worker.now.passes.items worker.now.stranger_pass) }
+            ensures { IsDone cells.entry.now strangers.entry.now directory.entry.now
+                (receiver_run S.Source K.Sink worker.entry.now.receiver worker.exit.now.receiver)
+                (crew worker.entry.now.passes.items worker.entry.now.stranger_pass)
+                (crew worker.exit.now.passes.items worker.exit.now.stranger_pass) }
+        {
             work_one(rt, directory, cells, strangers, worker);
         },
     );
