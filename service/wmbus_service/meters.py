@@ -17,6 +17,7 @@ from .trouble import Trouble
 log = logging.getLogger("wmbus")
 
 MODE_PLACE, KEY_PLACE, OTHER_PLACE, LAST_PLACE, DOWN_PLACE = 2, 3, 4, 5, 6
+MODES = ("5", "7")
 MOST_NAME = 80
 # a roster that the program judges has so many meters at most
 PIECE = 4096

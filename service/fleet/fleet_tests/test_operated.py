@@ -11,17 +11,20 @@ from pathlib import Path
 from typing import Any
 
 import pytest
+from messages import whole
 from tests.kill import PYTHON
-from wmbus_fleet import broker, commandline, commands, metrics, store
+from tests.meters import line_of, payload_of
+from wmbus_fleet import broker, commandline, commands, metrics, sessions, store
 from wmbus_fleet.messages import lines_body
 from wmbus_fleet.own_servers import RABBIT
 from wmbus_fleet.status import figures, in_words
 from wmbus_fleet.view.app import create_app
 from wmbus_service.trouble import Trouble
 
-from .test_parts import Fleet, fleet
+from .test_parts import NOW, Fleet, fleet
+from .test_retired import Desk, desk
 
-__all__ = ["fleet"]
+__all__ = ["desk", "fleet"]
 
 
 def data(fleet: Fleet, path: str, **asked: str) -> Any:
@@ -83,6 +86,33 @@ def test_an_id_of_another_command(fleet: Fleet) -> None:
         with pytest.raises(Trouble, match="another command has this id"):
             commands.put_command(fleet.database, ident, address, payload, 3)
     assert store.pairs(fleet.database, "select id, made from command") == {"c1": 1, "k1": 1}
+
+
+def test_a_mode_that_is_corrected(fleet: Fleet, desk: Desk) -> None:
+    """A meter that was commissioned in mode 5 and sends in mode 7 is read from then on where its mode is corrected; and one of which messages
+    of mode 7 were stored stays in it, since no counter would keep them from coming again."""
+    meter = fleet.meters[1]
+    as_five = meter.line().replace(" 7 ", " 5 ")
+    fleet.database.execute("update meter set block = %s where address = %s", (as_five, meter.name))
+    hearing, shard = sessions.Sessions(fleet.config, fleet.database), store.one(fleet.database, "select shard_of(%s)", (meter.name,))
+
+    def hear(number: int) -> None:
+        text = line_of(whole(meter.key, meter.address, number, payload_of(number), 0x44, None), int(NOW)).rstrip()
+        store.copy_rows(fleet.database, "inbox (address, gateway, epoch, message, place, text)",
+                        [(meter.name, fleet.gateway, 1, number, 1, text)])
+        assert hearing.session(shard, NOW) == 1
+    hear(1)
+    assert fleet.database.execute("select address, words from refusal").fetchall() == [(meter.name, "mode 7 5")]
+    key = f"{meter.key.hex()}\n"
+    assert desk.say("correct", meter.name.upper(), "--mode", "7", given=key) == (0, f"meter {meter.name} has another key, in mode 7")
+    assert store.one(fleet.database, "select count(*) from refusal") == 0
+    hear(2)
+    assert fleet.database.execute("select address, counter from reading").fetchall() == [(meter.name, 2)]
+    status, told = desk.say("correct", meter.name, "--mode", "5", given=key)
+    assert status == 1 and "stays in this mode" in told
+    assert desk.say("correct", meter.name, "--mode", "7", given=key)[0] == desk.say("correct", meter.name, given=key)[0] == 0
+    assert store.one(fleet.database, "select block from meter where address = %s", (meter.name,)).startswith(
+        f"meter {meter.name} 7 {meter.key.hex()} - 2 0 ")
 
 
 def test_commands_of_a_meter_that_there_is_none_of(fleet: Fleet, tmp_path: Path, capsys: pytest.CaptureFixture[str]) -> None:

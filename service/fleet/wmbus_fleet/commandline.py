@@ -17,6 +17,7 @@ import psycopg
 from wmbus_service.config import read_config as read_service
 from wmbus_service.ending import Ending
 from wmbus_service.memory_files import leave_no_core
+from wmbus_service.meters import MODES
 from wmbus_service.page.shared import counted
 from wmbus_service.printing import leave_unread, parsed
 from wmbus_service.trouble import Trouble
@@ -138,6 +139,7 @@ def _operating_words(command: Command) -> None:
     made.add_argument("--cancel", metavar="ID", help="has this command not be sent any more")
     made = command("correct", _correct, "gives a meter another key in the place of its own, which was wrong; it is asked for as with `rekey`")
     made.add_argument("address", metavar="METER")
+    made.add_argument("--mode", choices=MODES, help="its security mode too, where that was wrong")
     made = command("rekey", _rekey, "gives a meter of mode 7 its new second key, which is asked for, or read from the standard input")
     made.add_argument("address", metavar="METER")
     made = command("retire", _retire, "says that meters are out of service: nothing of them is missed any more; readings, counters and keys"
@@ -257,9 +259,11 @@ def _key() -> str:
 
 
 def _correct(config: Config, asked: argparse.Namespace) -> None:
+    address = asked.address.lower()
     with store.connect(config.database) as database:
-        commands.correct_key(config, database, asked.address, _key())
-    print(f"meter {asked.address.lower()} has another key")
+        commands.block_of(database, address, f"meter {asked.address}")
+        commands.correct_key(config, database, address, _key(), asked.mode)
+    print(f"meter {address} has another key" + (f", in mode {asked.mode}" if asked.mode else ""))
 
 
 def _rekey(config: Config, asked: argparse.Namespace) -> None:
