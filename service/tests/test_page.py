@@ -94,6 +94,26 @@ def test_meters_out_of_service(page: PageHouse) -> None:
     assert "heard out of service" in page.client().get(f"/meters/{second}").text
 
 
+def test_a_meter_whose_counter_was_set_back(page: PageHouse) -> None:
+    """It is heard, and each of its messages is refused as stale, with a counter below the last one that was stored: it isn't silent. One that
+    repeats the last one, and one of which copies come, aren't so."""
+    first, second, third = page.addresses
+    page.volume(first, NOW - 3 * DAY, 1)
+    page.volume(second, NOW - 3 * DAY, 1)
+    page.volume(third, NOW - 120, 1)
+    page.write("insert into refusal values (?, 'stale', 'stale 3 900', 9, 1, ?), (?, 'stale', 'stale 900 900', 9, 1, ?),"
+               " (?, 'stale', 'stale 899 900', 9, 1, ?)", first, NOW - 60, second, NOW - 60, third, NOW - 60)
+
+    def looks() -> list[tuple[str, str]]:
+        told = page.client().get("/api/overview").json or {}
+        return [(it["link"], it["what"]) for it in told["looks"] if it["link"].startswith("/meters/")]
+    assert looks() == [(f"/meters/{first}", "counter set back"), (f"/meters/{second}", "silent for 3 days")]
+    assert "stale 3 900" in page.client().get(f"/meters/{first}").text.partition("<h2>To look at</h2>")[2].partition("<h2>")[0]
+    # (a meter that was last heard so long ago is silent, whatever it sent)
+    page.write("update refusal set last_made = ? where address = ?", NOW - 2.5 * DAY, first)
+    assert looks()[0] == (f"/meters/{first}", "silent for 3 days")
+
+
 def test_nothing_to_look_at(page: PageHouse, monkeypatch: pytest.MonkeyPatch) -> None:
     """Where all is well it says so."""
     monkeypatch.setattr("wmbus_service.page.looks.is_locked", lambda folder: True)

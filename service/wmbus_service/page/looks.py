@@ -1,6 +1,7 @@
 """What needs a person: what is wrong, with which meter, receiver or command, and what to do about it."""
 from __future__ import annotations
 
+import re
 from collections.abc import Iterator
 from dataclasses import dataclass
 from typing import Any
@@ -26,6 +27,7 @@ MOST = 100
 WAITING_BYTES = 1 << 20
 # for so long a message for the broker may wait
 WAITING_SECONDS = HOUR
+STALE = re.compile("stale ([0-9]+) ([0-9]+)")
 STATES = {
     "waiting": "waits for the next session", "queued": "waits until the meter listens", "sent": "sent, and not confirmed yet",
     "confirmed": "confirmed by the meter", "expired": "given up: it was sent three times without an answer", "cancelled": "cancelled",
@@ -83,6 +85,9 @@ def meter_looks(meter: Meter, refusals: list[dict[str, Any]], now: float) -> Ite
     if wrong_key:
         yield Look("bad", "key probably wrong", meter.title, link,
                    f"Its telegrams are heard, and none could be opened {_since(meter)}. Get this meter's right key.")
+    elif back := _set_back(meter, refusals, now):
+        yield Look("bad", "counter set back", meter.title, link,
+                   f"Its messages come, and none is stored, as their counters are below the last stored one ({back}). Its page says what to do.")
     elif later:
         yield Look("bad", "nothing stored", meter.title, link,
                    f"What came last was refused ({later[0]['words']}). Its page says why, and what to do.")
@@ -90,6 +95,16 @@ def meter_looks(meter: Meter, refusals: list[dict[str, Any]], now: float) -> Ite
         yield Look("bad", "not heard", meter.title, link, "Is it in reach, and is its address that of its label?")
     elif now - meter.heard > METER_SILENCE:
         yield Look("look", silence(now - meter.heard), meter.title, link, "Is it in reach, and has its battery run out?")
+
+
+def _set_back(meter: Meter, refusals: list[dict[str, Any]], now: float) -> str:
+    """How a meter's last message was refused, where it is heard and its counter is below the last stored one: long after its last reading,
+    so that it is no copy of what was stored, and with another counter than the last one, which some meters repeat for days."""
+    for row in refusals:
+        told = STALE.fullmatch(row["words"])
+        if told and int(told[1]) < int(told[2]) and row["last_made"] > max((meter.heard or 0) + LATE, now - METER_SILENCE):
+            return str(row["words"])
+    return ""
 
 
 def _since(meter: Meter) -> str:

@@ -13,7 +13,7 @@ from wmbus_service.page.shared import counted, times
 from wmbus_service.page.views import meter_data
 
 from ..retiring import IS_HEARD, heard_words
-from ..status import IS_REPEAT, PARTS, SILENT, UNITS
+from ..status import IS_REPEAT, IS_SET_BACK, PARTS, SILENT, UNITS
 
 # the state of meters that are out of service and were heard since
 RETIRED_HEARD = "retired-heard"
@@ -29,7 +29,8 @@ LABEL = re.compile("(?:[A-Za-z]{3} ?)?((?:[0-9][ .-]?){8})(?:[0-9a-fA-F]{2} [0-9
 # (each goes once over the meters, of which there may be a million)
 METERS = f"""
 select count(*) as meters, count(retired) as retired, count(heard) filter (where retired is null) as read,
-    count(*) filter (where heard < ? and retired is null) as silent_meters,
+    count(*) filter (where heard < ? and retired is null and not ({IS_SET_BACK})) as silent_meters,
+    count(*) filter (where {IS_SET_BACK}) as set_back,
     count(*) filter (where heard is null and retired is null) as unheard_meters, count(*) filter (where {IS_HEARD}) as retired_heard
 from meter m"""
 COUNTS = {
@@ -39,7 +40,7 @@ COUNTS = {
 }
 # (what another gateway, or a repeater, brought once more is no trouble of an area's)
 AREAS = f"""
-with heard as (select g.area, count(*) as meters, count(*) filter (where m.heard < ?) as silent_meters
+with heard as (select g.area, count(*) as meters, count(*) filter (where m.heard < ? and not ({IS_SET_BACK})) as silent_meters
         from meter m join gateway g on g.name = m.gateway where m.retired is null group by g.area),
     refused as (select g.area, sum(r.times) as refused
         from refusal r join meter m on m.address = r.address join gateway g on g.name = m.gateway where not {IS_REPEAT} group by g.area),
@@ -110,6 +111,9 @@ def _of_parts(running: dict[str, int], told: dict[str, Any], _now: float) -> Ite
     if silent:
         yield Look("look", "silent", counted(silent, "meter", "meters"), "/meters?state=stopped",
                    "Each had a reading, and none for two days.")
+    if told["set_back"]:
+        yield Look("bad", "counter set back", counted(told["set_back"], "meter", "meters"), "/meters?state=set-back",
+                   "Each is heard, and nothing of it is stored, as its counter is below the last stored one. Its page says what to do.")
     if told["retired_heard"]:
         yield Look("look", "out of service", heard_words(told["retired_heard"]), f"/meters?state={RETIRED_HEARD}", PUT_BACK)
 
@@ -177,11 +181,12 @@ def area_page(database: Database, now: float, area: str) -> dict[str, Any] | Non
 
 # (of meters in service, but for the last two)
 STATES = {
-    "": "", "silent": " and (m.heard is null or m.heard < {moment})", "stopped": " and m.heard < {moment}", "unread": " and m.heard is null",
+    "": "", "silent": f" and (m.heard is null or m.heard < {{moment}} and not ({IS_SET_BACK}))",
+    "stopped": f" and m.heard < {{moment}} and not ({IS_SET_BACK})", "unread": " and m.heard is null",
     "read": " and m.heard >= {moment}",
     "refused": " and exists (select 1 from refusal r where r.address = m.address and r.last_made > coalesce(m.heard, 0)"
                f" and not {IS_REPEAT})",
-    "retired": " and m.retired is not null", RETIRED_HEARD: f" and {IS_HEARD}",
+    "set-back": f" and {IS_SET_BACK}", "retired": " and m.retired is not null", RETIRED_HEARD: f" and {IS_HEARD}",
 }
 
 
