@@ -6,6 +6,7 @@ import io
 import json
 import os
 import pty
+import re
 import signal
 import socket
 import sqlite3
@@ -127,6 +128,35 @@ def test_from_nothing_to_readings(place: Place) -> None:
     assert "no command" in place.fault("command", ADDRESS, "01", "--cancel", "")
     with sqlite3.connect(place.folder / "wmbus/wmbus.db") as database:
         assert database.execute("select id from command").fetchall() == [("a1",)]
+
+
+def test_when_each_receiver_was_heard(place: Place) -> None:
+    """`status` says of each receiver of the configuration when its last line came, also where no session has taken it yet; of one that stands
+    still what to do."""
+    with open(place.config, "a", encoding="utf-8") as file:
+        file.write('[receivers.roof]\ncommand = "cat"\nformat = "hex"\n')
+    place.said("add", ADDRESS, "--own", OWN, given=KEY)
+
+    def receivers() -> list[str]:
+        return [line for line in place.said("status").splitlines() if line.startswith("receiver ")]
+    never = "receiver roof: heard nothing: is it plugged in, and does its unit run (journalctl -u wmbus-receiver@roof)?"
+    assert receivers() == [never.replace("roof", "attic"), never]
+    place.hear(recorded())
+    assert re.fullmatch("receiver attic: heard [0-9] s ago", receivers()[0]) and receivers()[1] == never
+    with sqlite3.connect(place.folder / "wmbus/wmbus.db") as database:
+        database.execute("update line set made = made - 5 * 3600")
+    assert receivers()[0] == ("receiver attic: silent for 5 hours: is it plugged in, and does its unit run"
+                              " (journalctl -u wmbus-receiver@attic)?")
+    told = json.loads(place.said("status", "--json"))["receivers"]
+    assert [it["name"] for it in told] == ["attic", "roof"] and told[1]["age"] is None and 0 <= told[0]["age"] - 5 * 3600 < PATIENCE
+    # (the service doesn't run, and what comes waits)
+    with open(read_config(place.config).spool / "attic.00000001.1.lines", "a", encoding="ascii") as lines:
+        lines.write("A 1 00\n")
+    assert re.fullmatch("receiver attic: heard [0-9] s ago", receivers()[0])
+    with sqlite3.connect(place.folder / "wmbus/wmbus.db") as database:
+        database.execute("delete from line")
+    (place.folder / "wmbus/spool/attic.00000001.1.lines").unlink()
+    assert receivers()[0].startswith("receiver attic: silent for long: ")
 
 
 def test_a_key_that_is_corrected(place: Place) -> None:

@@ -10,13 +10,12 @@ from ..asking import Database
 from ..config import Config
 from ..service import is_locked, still_seconds
 from ..status import oldest_publication, waiting_bytes
-from .radios import Radio
+from .radios import DAY, HOUR, SILENCE, Radio, silence
 from .reading import Meter, rows_of, strangers
 from .shared import REPEATS, WRONG_KEY, counted, row_of, time_text, times, words_of_page
 
-HOUR, DAY = 3600.0, 86_400.0
-# without a reading for so long a meter is called silent, and a receiver without a line
-METER_SILENCE, RADIO_SILENCE = 2 * DAY, HOUR
+# without a reading for so long a meter is called silent
+METER_SILENCE = 2 * DAY
 # after so long without a reading it counts that telegrams were refused since
 LATE = 6 * HOUR
 # what is older than this is told on its own page alone
@@ -60,13 +59,6 @@ def explained(words: str) -> Explained:
     if row is not None:
         return Explained(words_of_page(row.meaning), words_of_page(row.to_do))
     return Explained("words that the page of formats doesn't explain", "look at the telegram with <code>frame_inspect</code>")
-
-
-def silence(seconds: float) -> str:
-    """For how long nothing was heard."""
-    if seconds >= 2 * DAY:
-        return f"silent for {counted(int(seconds // DAY), 'day', 'days')}"
-    return f"silent for {counted(int(seconds // HOUR), 'hour', 'hours')}"
 
 
 def meter_looks(meter: Meter, refusals: list[dict[str, Any]], now: float) -> Iterator[Look]:
@@ -121,7 +113,7 @@ def radio_looks(radio: Radio, now: float) -> Iterator[Look]:
     elif radio.heard is None:
         yield Look("bad", "silent for long", title, "/receivers",
                    f"What it heard is kept no longer, or was written while the clock was ahead. {to_do}")
-    elif now - radio.heard > RADIO_SILENCE:
+    elif now - radio.heard > SILENCE:
         yield Look("bad", silence(now - radio.heard), title, "/receivers", to_do)
 
 

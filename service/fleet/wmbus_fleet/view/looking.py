@@ -7,7 +7,8 @@ from dataclasses import asdict
 from typing import Any
 
 from wmbus_service.asking import Database
-from wmbus_service.page.looks import METER_SILENCE, OFTEN, RECENT, Look, explained, silence
+from wmbus_service.page.looks import METER_SILENCE, OFTEN, RECENT, Look, explained
+from wmbus_service.page.radios import silence
 from wmbus_service.page.reading import meters_of, rows_of, strangers
 from wmbus_service.page.shared import counted, times
 from wmbus_service.page.views import meter_data
