@@ -170,8 +170,8 @@ def wait(browser: Any, is_done: Callable[[], object]) -> None:
 def test_widths_and_colours(page: PageHouse, address: str, browser: Any) -> None:
     """At 390, 768 and 1,400 px, light and dark: no element goes beyond the window or its box, every text has contrast, all has a name."""
     pictures = os.environ.get("WMBUS_PICTURES")
-    paths = {"overview": "/", "meter": f"/meters/{page.addresses[0]}", "meter2": f"/meters/{page.addresses[1]}", "receivers": "/receivers",
-             "strangers": "/strangers", "enter": "/enter", "fault": "/nothing"}
+    paths = {"overview": "/", "found": "/meters?q=cellar&order=name", "meter": f"/meters/{page.addresses[0]}",
+             "meter2": f"/meters/{page.addresses[1]}", "receivers": "/receivers", "strangers": "/strangers", "enter": "/enter", "fault": "/nothing"}
     faults = {}
     for width in WIDTHS:
         for scheme in ("light", "dark"):

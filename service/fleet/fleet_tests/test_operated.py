@@ -79,7 +79,8 @@ def test_a_meter_whose_counter_was_set_back(fleet: Fleet, desk: Desk) -> None:
     assert data(fleet, "/api/overview")["counts"]["set_back"] == 0 and not data(fleet, f"/api/meters/{back}")["looks"]
 
 
-@pytest.mark.parametrize("wanted", ["02000002", "0200 0002", "02.00.00.02", "ABC 02000002", "abc02000002", "ELS 02000002 01 07", "02000002 01 07"])
+@pytest.mark.parametrize("wanted", ["02000002", "0200 0002", "02.00.00.02", "ABC 02000002", "abc02000002", "ELS 02000002 01 07", "02000002 01 07",
+                                    "2000002", "2 000 002", "8 ELS 01 02000002"])
 def test_a_label_as_it_is_written(fleet: Fleet, wanted: str) -> None:
     """A meter is found by what its label has, and by what the page itself writes of it."""
     fleet.database.execute("update meter set address = '9315' || '02000002' || '0107' where address = %s", (fleet.meters[0].name,))

@@ -1,12 +1,12 @@
 """What the fleet's own pages show: the overview, areas, gateways, and the meters that somebody looks for."""
 from __future__ import annotations
 
-import re
 from collections.abc import Iterator
 from dataclasses import asdict
 from typing import Any
 
 from wmbus_service.asking import Database
+from wmbus_service.page.finding import pattern_of, wanted
 from wmbus_service.page.looks import METER_SILENCE, OFTEN, RECENT, Look, explained
 from wmbus_service.page.radios import silence
 from wmbus_service.page.reading import meters_of, rows_of, strangers
@@ -25,8 +25,6 @@ DAY = 86_400.0
 LAG = 300
 # (of some locales, as C, PostgreSQL's own lower() knows the letters of ASCII alone; for these it takes a third of the time)
 LETTERS = {True: 'collate "C"', False: 'collate "und-x-icu"'}
-# a label's number as it is printed, also in pieces, behind its maker, and as the page itself tells it, with version and device type
-LABEL = re.compile("(?:[A-Za-z]{3} ?)?((?:[0-9][ .-]?){8})(?:[0-9a-fA-F]{2} [0-9a-fA-F]{2})?")
 # (each goes once over the meters, of which there may be a million)
 METERS = f"""
 select count(*) as meters, count(retired) as retired, count(heard) filter (where retired is null) as read,
@@ -219,20 +217,18 @@ def meters(database: Database, now: float, asked: dict[str, str]) -> dict[str, A
 
 
 def _looked_for(text: str, is_in_service: bool) -> tuple[str, list[Any]]:
-    """How a meter is looked for: by a part of its name, the first digits of its address, or the number on its label. By its name one that
-    is out of service is found among such alone: the one in its place may have the same name."""
-    letters = LETTERS[text.isascii()]
+    """How a meter is looked for: by a part of its name, the first digits of its address, or the last ones of the number on its label. By
+    its name one that is out of service is found among such alone: the one in its place may have the same name."""
+    letters, told = LETTERS[text.isascii()], wanted(text)
     conditions: list[str] = [f"position(lower(?::text {letters}) in lower(m.name {letters})) > 0"
                              f"{' and m.retired is null' if is_in_service else ''}"]
     values: list[Any] = [text]
-    if re.fullmatch("[0-9a-fA-F]{4,16}", text):
+    if told.address:
         conditions.append("left(m.address, ?) = ?")
-        values += [len(text), text.lower()]
-    if label := LABEL.fullmatch(text):
-        # (it stands there with its low byte first)
-        number = re.sub("[^0-9]", "", label[1])
-        conditions.append("substr(m.address, 5, 8) = ?")
-        values.append("".join(number[place:place + 2] for place in (6, 4, 2, 0)))
+        values += [len(told.address), told.address]
+    if told.number:
+        conditions.append("m.address like ?")
+        values.append(pattern_of(told.number))
     return f"({' or '.join(conditions)})", values
 
 
