@@ -176,7 +176,7 @@ def _area(config: Config, asked: argparse.Namespace) -> None:
 
 def _gateways(config: Config, asked: argparse.Namespace) -> None:
     with store.connect(config.database) as database:
-        count = sum(gateways.add(config, database, asked.area, name, asked.files) for name in asked.names)
+        count = gateways.add_all(config, database, asked.area, asked.names, asked.files)
     print(f"{count} new gateways")
     if asked.files and not config.broker.from_outside().host:
         print(f"their {gateways.SETTINGS} lack broker.host: write the broker's name there, or name it once as host under [broker.outside] in"
@@ -185,8 +185,7 @@ def _gateways(config: Config, asked: argparse.Namespace) -> None:
 
 def _remove(config: Config, asked: argparse.Namespace) -> None:
     with store.connect(config.database) as database:
-        for name in asked.names:
-            gateways.remove(config, database, name)
+        gateways.remove_all(config, database, asked.names)
 
 
 def _commission(config: Config, asked: argparse.Namespace) -> None:

@@ -99,14 +99,19 @@ def add_area(config: Config, database: Database, name: str) -> None:
 
 def add_gateway(config: Config, database: Database, area: str, name: str) -> bool:
     """Makes a gateway known, with its queue, or moves it to another area; whether it is new."""
-    _judge_name(name)
-    if not database.execute("select 1 from area where name = %s", (area,)).fetchone():
-        raise Trouble(f"area {area}", "there is no such area", f"`wmbus-fleet area {area}` makes it")
+    judge_gateway(database, area, name)
     is_new = database.execute("select 1 from gateway where name = %s", (name,)).fetchone() is None
     database.execute("insert into gateway (name, area) values (%s, %s) on conflict (name) do update set area = excluded.area", (name, area))
     with broker.connected(config.broker) as connection:
         broker.declare_gateway(broker.opened(connection), name)
     return is_new
+
+
+def judge_gateway(database: Database, area: str, name: str) -> None:
+    """Whether a gateway may have this name, and be in this area."""
+    _judge_name(name)
+    if not database.execute("select 1 from area where name = %s", (area,)).fetchone():
+        raise Trouble(f"area {area}", "there is no such area", f"`wmbus-fleet area {area}` makes it")
 
 
 def _judge_name(name: str) -> None:
