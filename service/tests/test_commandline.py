@@ -18,6 +18,7 @@ from contextlib import closing, redirect_stderr, redirect_stdout, suppress
 from dataclasses import dataclass
 from pathlib import Path
 
+import messages
 import pytest
 from wmbus_service import backup, config, exporting, meters, schema, service, store
 from wmbus_service.backup import raise_counters
@@ -29,6 +30,7 @@ from wmbus_service.service import Service
 from wmbus_service.store import open_store, prepare_folder
 
 from .kill import PYTHON, TOP, Child, program
+from .meters import line_of, payload_of
 from .processes import PATIENCE, run, until
 from .stand_in import use_stand_in
 from .test_operation import NOBODY, as_root
@@ -194,6 +196,36 @@ def test_a_mode_that_is_corrected(place: Place) -> None:
     assert place.said("correct", ADDRESS, "--mode", "7", given=KEY)
     place.said("export", "--state", str(place.folder / "state"))
     assert f"meter {ADDRESS} 7 {KEY} - 8 0 0" in (place.folder / "state").read_text()
+
+
+def test_a_meter_that_counts_anew(place: Place) -> None:
+    """As one whose electronics were exchanged: under its new key its messages are stored again from the first one on, and under a key that it
+    had before, by which all that it ever sent could come again, it is taken neither then nor later. Its downlink counter stays."""
+    def spoken(counter: int, key: str) -> str:
+        return line_of(messages.whole(bytes.fromhex(key), bytes.fromhex(ADDRESS), counter, payload_of(counter), 0x44, None), 100 + counter)
+
+    def counters() -> list[int]:
+        with closing(open_store(place.folder / "wmbus/wmbus.db")) as database:
+            return [counter for (counter,) in database.execute("select counter from reading order by id")]
+    place.said("add", ADDRESS, "--own", OWN, given=KEY)
+    place.said("rekey", ADDRESS, given="c" * 32)
+    place.hear(spoken(900, KEY))
+    with closing(open_store(place.folder / "wmbus/wmbus.db")) as database:
+        database.execute("update meter set block = replace(block, ' 900 0 0', ' 900 7 0')")
+    for key in (KEY, "C" * 32):
+        assert "another one than it has" in place.fault("correct", ADDRESS, "--anew", given=key)
+    place.hear(spoken(3, KEY) + spoken(4, "e" * 32))
+    assert counters() == [900]
+    assert place.said("correct", ADDRESS, "--anew", given="E" * 32) == f"meter {ADDRESS} has another key, and counts anew\n"
+    assert not json.loads(place.said("status", "--json"))["refusals"]
+    place.hear(spoken(5, "e" * 32) + spoken(901, KEY) + spoken(6, "e" * 32) + spoken(5, "e" * 32))
+    assert counters() == [900, 5, 6]
+    place.said("export", "--state", str(place.folder / "state"))
+    assert f"meter {ADDRESS} 7 {'e' * 32} - 6 7 0" in (place.folder / "state").read_text()
+    for words in (("correct", ADDRESS), ("correct", ADDRESS, "--anew"), ("rekey", ADDRESS)):
+        for key in (KEY.upper(), "c" * 32):
+            assert "it had this key before" in place.fault(*words, given=key)
+    place.said("correct", ADDRESS, given="f" * 32)
 
 
 def test_numbers_of_the_mode_before() -> None:

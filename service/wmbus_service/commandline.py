@@ -110,6 +110,8 @@ def _meter_words(command: Command) -> None:
     made = command("correct", _correct, "gives a meter another key in the place of its own, which was wrong; it is asked for as with `add`")
     made.add_argument("address", metavar="METER", type=_text)
     made.add_argument("--mode", choices=meters.MODES, help="its security mode too, where that was wrong")
+    made.add_argument("--anew", action="store_true", help="it counts anew, as where its electronics were exchanged: forgets its last number;"
+                                                          " takes no key that it had")
     made = command("retire", _retire, "says that meters are out of service: nothing of them is missed any more; readings, counters and keys"
                                       " stay")
     made.add_argument("addresses", metavar="METER", type=_text, nargs="+")
@@ -298,8 +300,8 @@ def _correct(asked: argparse.Namespace) -> int:
     config, address = _config(asked), asked.address.lower()
     with _opened(config) as database:
         meters.judge_known(database, address, f"meter {address}")
-        meters.correct_key(config, database, address, _key_of(address), asked.mode)
-    print(f"meter {address} has another key" + (f", in mode {asked.mode}" if asked.mode else ""))
+        meters.correct_key(config, database, address, _key_of(address), asked.mode, asked.anew)
+    print(f"meter {address} has another key" + (f", in mode {asked.mode}" if asked.mode else "") + (", and counts anew" if asked.anew else ""))
     return DONE
 
 

@@ -4,7 +4,8 @@ from __future__ import annotations
 import re
 import sqlite3
 
-from .meters import judge_in_service, judge_known
+from . import store
+from .meters import former_name, judge_former, judge_in_service, judge_known
 from .publications import Publications
 from .store import transaction
 from .trouble import Trouble
@@ -22,7 +23,9 @@ def put_command(database: sqlite3.Connection, ident: str, address: str, payload:
 
 def put_key(database: sqlite3.Connection, ident: str, address: str, key: str, now: float) -> bool:
     """Takes a meter's new second key; whether its id is new."""
-    return _put(database, ident, address.lower(), "rekey", key_of(f"command {ident}", key), now)
+    key = key_of(f"command {ident}", key)
+    judge_former(store.setting(database, former_name(address.lower())), key, f"meter {address}")
+    return _put(database, ident, address.lower(), "rekey", key, now)
 
 
 def payload_of(ident: str, payload: str) -> str:

@@ -1,6 +1,7 @@
 """The meters that the service knows: how they come into the database, and their line of a roster."""
 from __future__ import annotations
 
+import hashlib
 import json
 import logging
 import sqlite3
@@ -192,12 +193,52 @@ def with_mode(block: str, mode: str, place: object) -> str:
     return f"{' '.join(fields)}\n{rest}"
 
 
-def correct_key(config: Config, database: sqlite3.Connection, address: str, key: str, mode: str | None = None) -> None:
-    """Gives a meter another key, and another mode where one is named. What was refused under those before is told no more."""
+def counted_anew(block: str, key: str, place: object) -> str:
+    """A meter's block without the last number, as where its electronics were exchanged; under a key that it hasn't yet, since under another
+    one all that it ever sent could come again. All else stays, its downlink counter first."""
+    line, _, rest = block.partition("\n")
+    fields = line.split(" ")
+    if key in (fields[KEY_PLACE], fields[OTHER_PLACE]):
+        raise Trouble(place, "where it counts anew its key is another one than it has, and this is one that it has",
+                      "ask for the key of its new electronics, or leave out --anew")
+    fields[OTHER_PLACE] = fields[LAST_PLACE] = "-"
+    return f"{' '.join(fields)}\n{rest}"
+
+
+def former_name(address: str) -> str:
+    """The setting that has the digests of the keys under which a meter counted before it counted anew."""
+    return f"former {address}"
+
+
+def with_former(former: str | None, block: str) -> str:
+    """These digests with those of a block's keys."""
+    fields = block.partition("\n")[0].split(" ")
+    return " ".join([former or "", *(_digest(key) for key in (fields[KEY_PLACE], fields[OTHER_PLACE]) if key != "-")]).strip()
+
+
+def judge_former(former: str | None, key: str, place: object) -> None:
+    """A key under which a meter counted before it counted anew is taken no more: what it sent under it could come again."""
+    if _digest(key) in (former or "").split():
+        raise Trouble(place, "it had this key before it counted anew, and what it sent under it could come again", "give it the one of now")
+
+
+def _digest(key: str) -> str:
+    return hashlib.sha256(key.encode()).hexdigest()
+
+
+def correct_key(config: Config, database: sqlite3.Connection, address: str, key: str, mode: str | None = None,
+                is_anew: bool = False) -> None:
+    """Gives a meter another key, and another mode where one is named; it may count anew. What was refused under those before is told no
+    more."""
     place = f"meter {address}"
     with store.transaction(database):
         judge_known(database, address, place)
+        former = store.setting(database, former_name(address))
+        judge_former(former, key, place)
         (block,) = database.execute("select block from meter where address = ?", (address,)).fetchone()
+        if is_anew:
+            store.set_setting(database, former_name(address), with_former(former, block))
+            block = counted_anew(block, key, place)
         block = with_mode(block, mode, place) if mode else block
         block = with_key(words_of(config.programs.steps), store.setting(database, "own") or "", block, key, place)
         database.execute("update meter set block = ? where address = ?", (block, address))

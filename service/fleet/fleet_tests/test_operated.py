@@ -7,6 +7,7 @@ import time
 import tracemalloc
 from collections.abc import Iterator
 from contextlib import contextmanager
+from dataclasses import replace
 from pathlib import Path
 from typing import Any
 
@@ -74,6 +75,10 @@ def test_a_meter_whose_counter_was_set_back(fleet: Fleet, desk: Desk) -> None:
     assert len(said) == 1 and said[0].startswith(f"1 meter has a counter below the last stored one, first {back}: ")
     looks = {address: [it["what"] for it in data(fleet, f"/api/meters/{address}")["looks"]] for address in (back, repeating, copied)}
     assert looks == {back: ["counter set back"], repeating: ["silent for 3 days"], copied: []}
+    # (as of copies that a gateway which was cut off sent later: it is silent again)
+    fleet.database.execute("update refusal set last_made = %s where address = %s", (now - 2.5 * DAY, back))
+    assert sorted(it["address"] for it in data(fleet, "/api/meters", state="stopped")["meters"]) == sorted([back, repeating])
+    fleet.database.execute("update refusal set last_made = %s", (now - 60,))
     fleet.database.execute("update meter set retired = %s", (now,))
     assert not data(fleet, "/api/meters", state="set-back")["meters"] and "set back" not in desk.say("status")[1]
     assert data(fleet, "/api/overview")["counts"]["set_back"] == 0 and not data(fleet, f"/api/meters/{back}")["looks"]
@@ -145,6 +150,27 @@ def test_a_mode_that_is_corrected(fleet: Fleet, desk: Desk) -> None:
     assert desk.say("correct", meter.name, "--mode", "7", given=key)[0] == desk.say("correct", meter.name, given=key)[0] == 0
     assert store.one(fleet.database, "select block from meter where address = %s", (meter.name,)).startswith(
         f"meter {meter.name} 7 {meter.key.hex()} - 2 0 ")
+
+
+def test_a_meter_that_counts_anew(fleet: Fleet, desk: Desk) -> None:
+    """As one whose electronics were exchanged: under its new key its messages are stored again from the first one on, and under a key that it
+    had before it is taken neither then nor later."""
+    meter = fleet.meters[1]
+    before, after = f"{meter.key.hex()}\n", f"{'e' * 32}\n"
+    exchanged = replace(meter, key=bytes.fromhex("e" * 32))
+    for number in (900, 3):
+        hear(fleet, meter, number)
+    status, told = desk.say("correct", meter.name, "--anew", given=before)
+    assert status == 1 and "another one than it has" in told
+    assert desk.say("correct", meter.name, "--anew", given=after) == (0, f"meter {meter.name} has another key, and counts anew")
+    assert store.one(fleet.database, "select count(*) from refusal") == 0
+    for spoken, number in ((exchanged, 5), (meter, 901), (exchanged, 6), (exchanged, 5)):
+        hear(fleet, spoken, number)
+    assert fleet.database.execute("select counter from reading order by line").fetchall() == [(900,), (5,), (6,)]
+    for words in (("correct", meter.name), ("correct", meter.name, "--anew"), ("rekey", meter.name.upper())):
+        status, told = desk.say(*words, given=before)
+        assert status == 1 and "it had this key before" in told
+    assert desk.say("correct", meter.name, given=f"{'f' * 32}\n")[0] == 0
 
 
 def test_commands_of_a_meter_that_there_is_none_of(fleet: Fleet, tmp_path: Path, capsys: pytest.CaptureFixture[str]) -> None:

@@ -140,6 +140,8 @@ def _operating_words(command: Command) -> None:
     made = command("correct", _correct, "gives a meter another key in the place of its own, which was wrong; it is asked for as with `rekey`")
     made.add_argument("address", metavar="METER")
     made.add_argument("--mode", choices=MODES, help="its security mode too, where that was wrong")
+    made.add_argument("--anew", action="store_true", help="it counts anew, as where its electronics were exchanged: forgets its last number;"
+                                                          " takes no key that it had")
     made = command("rekey", _rekey, "gives a meter of mode 7 its new second key, which is asked for, or read from the standard input")
     made.add_argument("address", metavar="METER")
     made = command("retire", _retire, "says that meters are out of service: nothing of them is missed any more; readings, counters and keys"
@@ -261,8 +263,8 @@ def _correct(config: Config, asked: argparse.Namespace) -> None:
     address = asked.address.lower()
     with store.connect(config.database) as database:
         commands.block_of(database, address, f"meter {asked.address}")
-        commands.correct_key(config, database, address, _key(), asked.mode)
-    print(f"meter {address} has another key" + (f", in mode {asked.mode}" if asked.mode else ""))
+        commands.correct_key(config, database, address, _key(), asked.mode, asked.anew)
+    print(f"meter {address} has another key" + (f", in mode {asked.mode}" if asked.mode else "") + (", and counts anew" if asked.anew else ""))
 
 
 def _rekey(config: Config, asked: argparse.Namespace) -> None:

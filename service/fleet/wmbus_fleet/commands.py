@@ -9,7 +9,9 @@ from pathlib import Path
 from wmbus_service.commands import OPEN, judge_ident, key_of, payload_of
 from wmbus_service.config import NAME, words_of
 from wmbus_service.importing import ADDRESS
-from wmbus_service.meters import PIECE, judge_roster, meters_in, name_of, pieces_of, read_roster, with_key, with_mode
+from wmbus_service.meters import (
+    PIECE, counted_anew, former_name, judge_former, judge_roster, meters_in, name_of, pieces_of, read_roster, with_former, with_key, with_mode,
+)
 from wmbus_service.trouble import Trouble
 
 from . import broker, retiring, store
@@ -26,19 +28,27 @@ def put_command(database: Database, ident: str, address: str, payload: str, now:
 
 def put_key(database: Database, ident: str, address: str, key: str, now: float) -> bool:
     """Takes a meter's new second key; whether its id is new."""
-    return _put(database, ident, address.lower(), "rekey", key_of(f"command {ident}", key), now)
+    key = key_of(f"command {ident}", key)
+    judge_former(store.setting(database, former_name(address.lower())), key, f"meter {address}")
+    return _put(database, ident, address.lower(), "rekey", key, now)
 
 
-def correct_key(config: Config, database: Database, address: str, key: str, mode: str | None = None) -> None:
-    """Gives a meter another key in the place of its own, which was wrong, and another mode where one is named; all else that is known of
-    it stays, its counters first. What was refused under those before is told no more."""
+def correct_key(config: Config, database: Database, address: str, key: str, mode: str | None = None, is_anew: bool = False) -> None:
+    """Gives a meter another key in the place of its own, which was wrong, and another mode where one is named; it may count anew. All else
+    that is known of it stays, its downlink counter first. What was refused under those before is told no more."""
     place, address = f"meter {address}", address.lower()
+    key = key_of(place, key)
     with store.transaction(database):
         # (a session that has the meter in hand ends before)
         database.execute("select pg_advisory_xact_lock(%s, shard_of(%s))", (store.SESSIONS, address))
         block = block_of(database, address, place)
+        former = store.setting(database, former_name(address))
+        judge_former(former, key, place)
+        if is_anew:
+            store.set_setting(database, former_name(address), with_former(former, block))
+            block = counted_anew(block, key, place)
         block = with_mode(block, mode, place) if mode else block
-        block = with_key(words_of(config.programs.steps), store.setting(database, "own") or "", block, key_of(place, key), place)
+        block = with_key(words_of(config.programs.steps), store.setting(database, "own") or "", block, key, place)
         database.execute("update meter set block = %s where address = %s", (block, address))
         database.execute("delete from refusal where address = %s", (address,))
 

@@ -137,7 +137,8 @@ def in_words(told: dict[str, Any]) -> Iterator[str]:
         yield f"{heard_words(told['retired_heard'])}, first {told['retired_first']}: `wmbus-fleet retire --back METER` puts one back"
     if told["set_back"]:
         yield (f"{counted(told['set_back'], 'meter has a counter', 'meters have counters')} below the last stored one, first"
-               f" {told['set_back_first']}: all that comes is refused as stale. Was it exchanged or set back? docs/FORMATS.md says what to do")
+               f" {told['set_back_first']}: all that comes is refused as stale. Was it exchanged or set back? `wmbus-fleet correct METER --anew`"
+               " takes its new key")
     for it in told["refusals_by_area"]:
         yield f"refused in {it['area'] or 'no area'}: {it['times']} times {it['reason']}, of {it['meters']} meters"
     for it in told["refusals"]:

@@ -79,7 +79,8 @@ def meter_looks(meter: Meter, refusals: list[dict[str, Any]], now: float) -> Ite
                    f"Its telegrams are heard, and none could be opened {_since(meter)}. Get this meter's right key.")
     elif back := _set_back(meter, refusals, now):
         yield Look("bad", "counter set back", meter.title, link,
-                   f"Its messages come, and none is stored, as their counters are below the last stored one ({back}). Its page says what to do.")
+                   f"Its messages come, and none is stored, as their counters are below the last stored one ({back}). Its page says"
+                   " what to do.")
     elif later:
         yield Look("bad", "nothing stored", meter.title, link,
                    f"What came last was refused ({later[0]['words']}). Its page says why, and what to do.")
