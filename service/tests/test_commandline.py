@@ -208,12 +208,15 @@ def test_a_meter_that_counts_anew(place: Place) -> None:
         with closing(open_store(place.folder / "wmbus/wmbus.db")) as database:
             return [counter for (counter,) in database.execute("select counter from reading order by id")]
     place.said("add", ADDRESS, "--own", OWN, given=KEY)
-    place.said("rekey", ADDRESS, given="c" * 32)
-    place.hear(spoken(900, KEY))
+    for second in ("c", "d"):
+        place.said("rekey", ADDRESS, given=second * 32)
+        place.hear(spoken(900, KEY))
+    for key in ("a" * 32, KEY):
+        place.said("correct", ADDRESS, given=key)
     with closing(open_store(place.folder / "wmbus/wmbus.db")) as database:
         database.execute("update meter set block = replace(block, ' 900 0 0', ' 900 7 0')")
-    for key in (KEY, "C" * 32):
-        assert "another one than it has" in place.fault("correct", ADDRESS, "--anew", given=key)
+    for key in (KEY, "C" * 32, "d" * 32, "a" * 32):
+        assert "one that it never had" in place.fault("correct", ADDRESS, "--anew", given=key)
     place.hear(spoken(3, KEY) + spoken(4, "e" * 32))
     assert counters() == [900]
     assert place.said("correct", ADDRESS, "--anew", given="E" * 32) == f"meter {ADDRESS} has another key, and counts anew\n"
@@ -223,7 +226,7 @@ def test_a_meter_that_counts_anew(place: Place) -> None:
     place.said("export", "--state", str(place.folder / "state"))
     assert f"meter {ADDRESS} 7 {'e' * 32} - 6 7 0" in (place.folder / "state").read_text()
     for words in (("correct", ADDRESS), ("correct", ADDRESS, "--anew"), ("rekey", ADDRESS)):
-        for key in (KEY.upper(), "c" * 32):
+        for key in (KEY.upper(), "c" * 32, "d" * 32):
             assert "it had this key before" in place.fault(*words, given=key)
     place.said("correct", ADDRESS, given="f" * 32)
 

@@ -5,7 +5,7 @@ import re
 import sqlite3
 
 from . import store
-from .meters import former_name, judge_former, judge_in_service, judge_known
+from .meters import judge_former, judge_in_service, judge_known, keys_name, with_noted
 from .publications import Publications
 from .store import transaction
 from .trouble import Trouble
@@ -23,9 +23,13 @@ def put_command(database: sqlite3.Connection, ident: str, address: str, payload:
 
 def put_key(database: sqlite3.Connection, ident: str, address: str, key: str, now: float) -> bool:
     """Takes a meter's new second key; whether its id is new."""
-    key = key_of(f"command {ident}", key)
-    judge_former(store.setting(database, former_name(address.lower())), key, f"meter {address}")
-    return _put(database, ident, address.lower(), "rekey", key, now)
+    key, place, address = key_of(f"command {ident}", key), f"meter {address}", address.lower()
+    told, row = store.setting(database, keys_name(address)), database.execute("select block from meter where address = ?", (address,)).fetchone()
+    judge_former(told, key, place)
+    if row:
+        # (the second key that it has may be replaced)
+        store.set_setting(database, keys_name(address), with_noted(told, row[0]))
+    return _put(database, ident, address, "rekey", key, now)
 
 
 def payload_of(ident: str, payload: str) -> str:

@@ -129,7 +129,7 @@ def hear(fleet: Fleet, meter: Meter, number: int) -> None:
     text = line_of(whole(meter.key, meter.address, number, payload_of(number), 0x44, None), int(NOW)).rstrip()
     store.copy_rows(fleet.database, "inbox (address, gateway, epoch, message, place, text)", [(meter.name, fleet.gateway, 1, number, 1, text)])
     shard = store.one(fleet.database, "select shard_of(%s)", (meter.name,))
-    assert sessions.Sessions(fleet.config, fleet.database).session(shard, NOW) == 1
+    assert sessions.Sessions(fleet.config, fleet.database).session(shard, NOW)
 
 
 def test_a_mode_that_is_corrected(fleet: Fleet, desk: Desk) -> None:
@@ -160,8 +160,12 @@ def test_a_meter_that_counts_anew(fleet: Fleet, desk: Desk) -> None:
     exchanged = replace(meter, key=bytes.fromhex("e" * 32))
     for number in (900, 3):
         hear(fleet, meter, number)
-    status, told = desk.say("correct", meter.name, "--anew", given=before)
-    assert status == 1 and "another one than it has" in told
+    for second in ("c", "d"):
+        assert desk.say("rekey", meter.name, given=f"{second * 32}\n")[0] == 0
+        hear(fleet, meter, 900)
+    for known in (before, f"{'c' * 32}\n", f"{'d' * 32}\n"):
+        status, told = desk.say("correct", meter.name, "--anew", given=known)
+        assert status == 1 and "one that it never had" in told
     assert desk.say("correct", meter.name, "--anew", given=after) == (0, f"meter {meter.name} has another key, and counts anew")
     assert store.one(fleet.database, "select count(*) from refusal") == 0
     for spoken, number in ((exchanged, 5), (meter, 901), (exchanged, 6), (exchanged, 5)):
