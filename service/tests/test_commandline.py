@@ -6,6 +6,7 @@ import io
 import json
 import os
 import pty
+import re
 import signal
 import socket
 import sqlite3
@@ -17,6 +18,7 @@ from contextlib import closing, redirect_stderr, redirect_stdout, suppress
 from dataclasses import dataclass
 from pathlib import Path
 
+import messages
 import pytest
 from wmbus_service import backup, config, exporting, meters, schema, service, store
 from wmbus_service.backup import raise_counters
@@ -28,6 +30,7 @@ from wmbus_service.service import Service
 from wmbus_service.store import open_store, prepare_folder
 
 from .kill import PYTHON, TOP, Child, program
+from .meters import line_of, payload_of
 from .processes import PATIENCE, run, until
 from .stand_in import use_stand_in
 from .test_operation import NOBODY, as_root
@@ -129,6 +132,35 @@ def test_from_nothing_to_readings(place: Place) -> None:
         assert database.execute("select id from command").fetchall() == [("a1",)]
 
 
+def test_when_each_receiver_was_heard(place: Place) -> None:
+    """`status` says of each receiver of the configuration when its last line came, also where no session has taken it yet; of one that stands
+    still what to do."""
+    with open(place.config, "a", encoding="utf-8") as file:
+        file.write('[receivers.roof]\ncommand = "cat"\nformat = "hex"\n')
+    place.said("add", ADDRESS, "--own", OWN, given=KEY)
+
+    def receivers() -> list[str]:
+        return [line for line in place.said("status").splitlines() if line.startswith("receiver ")]
+    never = "receiver roof: heard nothing: is it plugged in, and does its unit run (journalctl -u wmbus-receiver@roof)?"
+    assert receivers() == [never.replace("roof", "attic"), never]
+    place.hear(recorded())
+    assert re.fullmatch("receiver attic: heard [0-9] s ago", receivers()[0]) and receivers()[1] == never
+    with sqlite3.connect(place.folder / "wmbus/wmbus.db") as database:
+        database.execute("update line set made = made - 5 * 3600")
+    assert receivers()[0] == ("receiver attic: silent for 5 hours: is it plugged in, and does its unit run"
+                              " (journalctl -u wmbus-receiver@attic)?")
+    told = json.loads(place.said("status", "--json"))["receivers"]
+    assert [it["name"] for it in told] == ["attic", "roof"] and told[1]["age"] is None and 0 <= told[0]["age"] - 5 * 3600 < PATIENCE
+    # (the service doesn't run, and what comes waits)
+    with open(read_config(place.config).spool / "attic.00000001.1.lines", "a", encoding="ascii") as lines:
+        lines.write("A 1 00\n")
+    assert re.fullmatch("receiver attic: heard [0-9] s ago", receivers()[0])
+    with sqlite3.connect(place.folder / "wmbus/wmbus.db") as database:
+        database.execute("delete from line")
+    (place.folder / "wmbus/spool/attic.00000001.1.lines").unlink()
+    assert receivers()[0].startswith("receiver attic: silent for long: ")
+
+
 def test_a_key_that_is_corrected(place: Place) -> None:
     """A meter with a wrong key gets the right one, with which what it sends from then on is read; nothing else of it changes, and what was
     refused under the wrong one is told no more."""
@@ -164,6 +196,39 @@ def test_a_mode_that_is_corrected(place: Place) -> None:
     assert place.said("correct", ADDRESS, "--mode", "7", given=KEY)
     place.said("export", "--state", str(place.folder / "state"))
     assert f"meter {ADDRESS} 7 {KEY} - 8 0 0" in (place.folder / "state").read_text()
+
+
+def test_a_meter_that_counts_anew(place: Place) -> None:
+    """As one whose electronics were exchanged: under its new key its messages are stored again from the first one on, and under a key that it
+    had before, by which all that it ever sent could come again, it is taken neither then nor later. Its downlink counter stays."""
+    def spoken(counter: int, key: str) -> str:
+        return line_of(messages.whole(bytes.fromhex(key), bytes.fromhex(ADDRESS), counter, payload_of(counter), 0x44, None), 100 + counter)
+
+    def counters() -> list[int]:
+        with closing(open_store(place.folder / "wmbus/wmbus.db")) as database:
+            return [counter for (counter,) in database.execute("select counter from reading order by id")]
+    place.said("add", ADDRESS, "--own", OWN, given=KEY)
+    for second in ("c", "d"):
+        place.said("rekey", ADDRESS, given=second * 32)
+        place.hear(spoken(900, KEY))
+    for key in ("a" * 32, KEY):
+        place.said("correct", ADDRESS, given=key)
+    with closing(open_store(place.folder / "wmbus/wmbus.db")) as database:
+        database.execute("update meter set block = replace(block, ' 900 0 0', ' 900 7 0')")
+    for key in (KEY, "C" * 32, "d" * 32, "a" * 32):
+        assert "one that it never had" in place.fault("correct", ADDRESS, "--anew", given=key)
+    place.hear(spoken(3, KEY) + spoken(4, "e" * 32))
+    assert counters() == [900]
+    assert place.said("correct", ADDRESS, "--anew", given="E" * 32) == f"meter {ADDRESS} has another key, and counts anew\n"
+    assert not json.loads(place.said("status", "--json"))["refusals"]
+    place.hear(spoken(5, "e" * 32) + spoken(901, KEY) + spoken(6, "e" * 32) + spoken(5, "e" * 32))
+    assert counters() == [900, 5, 6]
+    place.said("export", "--state", str(place.folder / "state"))
+    assert f"meter {ADDRESS} 7 {'e' * 32} - 6 7 0" in (place.folder / "state").read_text()
+    for words in (("correct", ADDRESS), ("correct", ADDRESS, "--anew"), ("rekey", ADDRESS)):
+        for key in (KEY.upper(), "c" * 32, "d" * 32):
+            assert "it had this key before" in place.fault(*words, given=key)
+    place.said("correct", ADDRESS, given="f" * 32)
 
 
 def test_numbers_of_the_mode_before() -> None:

@@ -94,6 +94,73 @@ def test_meters_out_of_service(page: PageHouse) -> None:
     assert "heard out of service" in page.client().get(f"/meters/{second}").text
 
 
+def test_a_meter_whose_counter_was_set_back(page: PageHouse) -> None:
+    """It is heard, and each of its messages is refused as stale, with a counter below the last one that was stored: it isn't silent. One that
+    repeats the last one, and one of which copies come, aren't so."""
+    first, second, third = page.addresses
+    page.volume(first, NOW - 3 * DAY, 1)
+    page.volume(second, NOW - 3 * DAY, 1)
+    page.volume(third, NOW - 120, 1)
+    page.write("insert into refusal values (?, 'stale', 'stale 3 900', 9, 1, ?), (?, 'stale', 'stale 900 900', 9, 1, ?),"
+               " (?, 'stale', 'stale 899 900', 9, 1, ?)", first, NOW - 60, second, NOW - 60, third, NOW - 60)
+
+    def looks() -> list[tuple[str, str]]:
+        told = page.client().get("/api/overview").json or {}
+        return [(it["link"], it["what"]) for it in told["looks"] if it["link"].startswith("/meters/")]
+    assert looks() == [(f"/meters/{first}", "counter set back"), (f"/meters/{second}", "silent for 3 days")]
+    assert "stale 3 900" in page.client().get(f"/meters/{first}").text.partition("<h2>To look at</h2>")[2].partition("<h2>")[0]
+    # (a meter that was last heard so long ago is silent, whatever it sent)
+    page.write("update refusal set last_made = ? where address = ?", NOW - 2.5 * DAY, first)
+    assert looks()[0] == (f"/meters/{first}", "silent for 3 days")
+
+
+def found(page: PageHouse, **asked: str) -> list[int]:
+    """Which of the meters the page of meters has, in its order."""
+    text = page.client().get("/meters", query_string=asked).text
+    listed = re.findall(r'<th scope="row"><a href="/meters/([0-9a-f]{16})">', text)
+    assert listed == [it["address"] for it in (page.client().get("/api/meters", query_string=asked).json or {})["meters"]]
+    assert ("No meter is so." in text) == (not listed)
+    return [page.addresses.index(it) for it in listed]
+
+
+@pytest.mark.parametrize("wanted, places", [
+    ("12345678", [0]), ("1234 5678", [0]), ("12.34.56.78", [0]), ("ELS 12345678 01 07", [0]), ("els12345678", [0]), ("8 ELS 01 12345678", [0]),
+    ("5678", [0, 1]), ("45 678", [0]), ("678", [0, 1]), ("78", []), ("93157856", [0, 1]), ("9315785634120107", [0]), ("5612", []),
+    ("küche", [0]), ("KÜCHE, wohnung 7", [0]), ("wohnung", [0, 2]), ("%", []), ("_", []), (" ", [0, 1, 2]), ("\0", [0, 1, 2])])
+def test_meters_that_are_looked_for(page: PageHouse, wanted: str, places: list[int]) -> None:
+    """By the number on the label as it is printed, its last digits from three on, the first digits of the address, and a part of the name."""
+    names = "Küche, Wohnung 7", "", "Wohnung 8"
+    for place, (number, name) in enumerate(zip(("78563412", "78562211", "11111111"), names)):
+        page.write("update meter set address = ?, name = ? where address = ?", f"9315{number}0107", name, page.addresses[place])
+        page.addresses[place] = f"9315{number}0107"
+    assert found(page, q=wanted) == places
+
+
+def test_meters_in_an_order(page: PageHouse) -> None:
+    """As they were added, by name, by the number on the label, or those first that were silent for longest; others are told in words."""
+    for place, (number, name, ago) in enumerate((("03000044", "b", 60), ("01000044", "", 0), ("02000044", "A", 3 * DAY))):
+        page.write("update meter set address = ?, name = ? where address = ?", f"9315{number}0107", name, page.addresses[place])
+        page.addresses[place] = f"9315{number}0107"
+        if ago:
+            page.volume(page.addresses[place], NOW - ago, 1)
+    orders = {order: found(page, order=order) for order in ("", "name", "number", "silence")}
+    assert orders == {"": [0, 1, 2], "name": [2, 0, 1], "number": [1, 2, 0], "silence": [1, 2, 0]}
+    assert found(page, q="a", order="name") == [2]
+    answer = page.client().get("/meters?order=size")
+    assert answer.status_code == 400 and "An order is one of name, number, silence." in answer.text
+
+
+def test_meters_out_of_service_that_are_looked_for(page: PageHouse) -> None:
+    """One is found by its number and its address, and says so; by its name those in service alone, one of which may be in its place."""
+    page.write("update meter set name = 'Gas', retired = ? where address = ?", NOW - DAY, page.addresses[0])
+    page.write("update meter set name = 'Gas' where address = ?", page.addresses[1])
+    assert found(page) == [1, 2] and found(page, q="gas") == [1]
+    assert found(page, q="00000001") == found(page, q=page.addresses[0]) == [0]
+    assert "out of service since 2027-01-14" in page.client().get("/meters?q=00000001").text
+    (form,) = re.findall('<form method="get" action="/meters".*?</form>', page.client().get("/").text, re.DOTALL)
+    assert "A meter by its number, address or name" in form and "<button>Search</button>" in form
+
+
 def test_nothing_to_look_at(page: PageHouse, monkeypatch: pytest.MonkeyPatch) -> None:
     """Where all is well it says so."""
     monkeypatch.setattr("wmbus_service.page.looks.is_locked", lambda folder: True)

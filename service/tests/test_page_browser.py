@@ -35,7 +35,7 @@ webdriver = pytest.importorskip("selenium.webdriver", reason="python3-selenium i
 CHROMIUM, DRIVER = shutil.which("chromium"), shutil.which("chromedriver")
 pytestmark = [pytest.mark.skipif(not (CHROMIUM and DRIVER), reason="chromium and chromium-driver aren't there"),
               pytest.mark.skipif(not is_named("localhost"), reason="selenium asks for the name localhost, which isn't known here")]
-WIDTHS = (390, 768, 1400)
+WIDTHS = (320, 390, 768, 1400)
 STRANGER = "2d2c785634121b16"
 KEY = "0123456789abcdef" * 2
 
@@ -96,10 +96,10 @@ for (const it of document.querySelectorAll("h1, h2, h3, h4, h5, h6")) {
 if (document.querySelectorAll("h1").length !== 1 || !document.title || !document.documentElement.lang) found.push("no head");
 return found;"""
 
-# numbers of the list of meters that go on in the next line: half of one is read as another one
+# numbers of meters that go on in the next line: half of one is read as another one
 BROKEN = """
 const found = [];
-for (const it of document.querySelectorAll(".meters td.number")) {
+for (const it of document.querySelectorAll(".meters td.number, .registers td.text")) {
   const number = document.createRange();
   number.setStart(it.firstChild, 0);
   number.setEnd(it.firstChild, it.firstChild.data.lastIndexOf(" "));
@@ -168,10 +168,10 @@ def wait(browser: Any, is_done: Callable[[], object]) -> None:
 
 
 def test_widths_and_colours(page: PageHouse, address: str, browser: Any) -> None:
-    """At 390, 768 and 1,400 px, light and dark: no element goes beyond the window or its box, every text has contrast, all has a name."""
+    """At 320, 390, 768 and 1,400 px, light and dark: no element goes beyond the window or its box, every text has contrast, all has a name."""
     pictures = os.environ.get("WMBUS_PICTURES")
-    paths = {"overview": "/", "meter": f"/meters/{page.addresses[0]}", "meter2": f"/meters/{page.addresses[1]}", "receivers": "/receivers",
-             "strangers": "/strangers", "enter": "/enter", "fault": "/nothing"}
+    paths = {"overview": "/", "found": "/meters?q=cellar&order=name", "meter": f"/meters/{page.addresses[0]}",
+             "meter2": f"/meters/{page.addresses[1]}", "receivers": "/receivers", "strangers": "/strangers", "enter": "/enter", "fault": "/nothing"}
     faults = {}
     for width in WIDTHS:
         for scheme in ("light", "dark"):
@@ -194,14 +194,17 @@ def test_widths_and_colours(page: PageHouse, address: str, browser: Any) -> None
     assert not [entry for entry in browser.get_log("browser") if "script" in entry["message"].lower()]
 
 
-@pytest.mark.parametrize("width", [390, 560, 640, 768, 1400])
+@pytest.mark.parametrize("width", [320, 390, 560, 640, 768, 1400])
 def test_numbers_stay_whole(page: PageHouse, address: str, browser: Any, width: int) -> None:
-    """In the list of meters no number goes on in the next line, however long the names beside it are, also in a window that is zoomed."""
+    """In the lists of meters and registers no number goes on in the next line, however long the names beside it are, also in a window that is
+    zoomed."""
     page.write("update meter set name = ?", "Wasserzähler Küche Müllerstraße 12, drittes Obergeschoß links, Wohnung Nr. 0815")
     page.write("delete from record")
     for meter in page.addresses:
         page.volume(meter, NOW - 60, 1_234_567_890)
     browser.execute_cdp_cmd("Emulation.setDeviceMetricsOverride", {"width": width, "height": 900, "deviceScaleFactor": 1, "mobile": False})
+    browser.get(f"{address}/meters/{page.addresses[0]}")
+    assert browser.execute_script(BROKEN) == [] and browser.execute_script(OVERFLOWS) == []
     browser.get(address)
     numbers = browser.execute_script("return [...document.querySelectorAll('.meters td.number')].map(it => it.firstChild.data)")
     assert numbers == ["1\u202f234\u202f567.890 m³"] * 3

@@ -34,7 +34,7 @@ TEXTS = ["", "0", "-1", "9" * 400, "-", "2026-02-30", "0001-01-01", "9999-12-31"
 PIECES = ["meters", "api", "overview", "receivers", "strangers", "add", "enter", "leave", "commands", "cancel", "readings.csv", "static",
           "page.css", "common.css", ".", "..", "%2e%2e", "%2f", "%00", "%ff", "%", "#", ";", "\u202e", "",
           quote_from_bytes(MARKUP.encode())]
-FIELDS = ["forms", "token", "id", "payload", "address", "mode", "key", "name", "span", "from", "to", "_method", "__class__", "x"]
+FIELDS = ["forms", "token", "id", "payload", "address", "mode", "key", "name", "span", "from", "to", "q", "order", "_method", "__class__", "x"]
 HEADERS = {"Host": ["elsewhere.example", "127.0.0.1:9", "localhost", "[::1]:9102", "", "a b", "127.0.0.1@elsewhere.example"],
            "Origin": ["null", "http://localhost", "http://elsewhere.example", "x"], "Sec-Fetch-Site": ["cross-site", "same-origin", "none"],
            "Cookie": ["wmbus=x", "wmbus=" + "a." * 900, "wmbus=eyJlbnRlcmVkIjp0cnVlfQ.aaaa.bbbb", "=", ";;;"],
@@ -64,7 +64,8 @@ class Fuzzer:
         address = draw.choice(self.page.addresses if draw.random() < 0.5 else [*self.addresses, *TEXTS])
         known = ["/", "/receivers", "/strangers", "/strangers/add", "/enter", "/leave", "/readings.csv", "/common.css", "/static/page.css",
                  "/api/overview", "/api/meters", "/api/receivers", "/api/strangers", f"/meters/{address}", f"/api/meters/{address}",
-                 f"/meters/{address}/readings.csv", f"/meters/{address}/commands", f"/meters/{address}/commands/cancel"]
+                 f"/meters/{address}/readings.csv", f"/meters/{address}/commands", f"/meters/{address}/commands/cancel",
+                 "/meters"]
         path = draw.choice(known + known[13:15] * 4)
         if draw.random() < 0.3:
             path = "/" + "/".join(draw.choice([*PIECES, *self.addresses]) for _ in range(draw.randrange(1, 6)))

@@ -50,7 +50,7 @@ def look_at(client: FlaskClient, path: str) -> str:
 def all_paths(page: PageHouse) -> list[str]:
     """All pages."""
     address = page.addresses[0]
-    return ["/", f"/meters/{address}", "/receivers", "/strangers", "/enter", "/api/overview", "/api/meters", f"/api/meters/{address}",
+    return ["/", "/meters", f"/meters/{address}", "/receivers", "/strangers", "/enter", "/api/overview", "/api/meters", f"/api/meters/{address}",
             "/api/receivers", "/api/strangers", "/readings.csv", f"/meters/{address}/readings.csv"]
 
 

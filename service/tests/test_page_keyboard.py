@@ -122,8 +122,8 @@ def test_tab_goes_through_each_page(page: PageHouse, address: str, browser: Any,
     give_token(browser, address)
     first, second, _ = (f"/meters/{it}" for it in page.addresses)
     found = {}
-    for path, script in (("/", ""), (first, ""), (f"{second}?span=year", ""), ("/receivers", ""), ("/strangers", ""), ("/strangers", OPEN),
-                         ("/enter", ""), ("/nothing", "")):
+    for path, script in (("/", ""), ("/meters?q=cellar", ""), (first, ""), (f"{second}?span=year", ""), ("/receivers", ""),
+                         ("/strangers", ""), ("/strangers", OPEN), ("/enter", ""), ("/nothing", "")):
         browser.get(address + path)
         browser.execute_script(script)
         told = unnamed(browser) + faults(browser)

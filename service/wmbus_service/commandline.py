@@ -28,7 +28,6 @@ from .trouble import Trouble
 DONE, TROUBLE = 0, 1
 VERSION = "0.1.0"
 STATUSES = "exit status: 0 all is done or right, 1 something is wrong and was named, 2 faulty words"
-MODES = ("5", "7")
 MARGIN = 1000
 MOST_COUNT = 65_535
 
@@ -99,18 +98,20 @@ def _meter_words(command: Command) -> None:
     made = command("add", _add,
                    "adds a meter; its key is asked for, or read from the standard input, so that no list of processes shows it")
     made.add_argument("address", metavar="METER", help="the meter's address, sixteen hexadecimal digits as bin/meter_name prints them")
-    made.add_argument("--mode", choices=MODES, default="7", help="its security mode, 7 where none is named")
+    made.add_argument("--mode", choices=meters.MODES, default="7", help="its security mode, 7 where none is named")
     made.add_argument("--name", default="", help="what it is called")
     made.add_argument("--own", metavar="ADDRESS", help="the collector's own address, with the first meter")
     made = command("import", _import, "adds the meters of a list of keys, all or none: CSV with a head, or Kamstrup's key file (KEM), whose"
                                       " password is asked for, or read from the standard input")
     made.add_argument("list", metavar="FILE", type=Path)
-    made.add_argument("--mode", choices=MODES, default="7", help="the security mode where the list names none, 7 where none is named here")
+    made.add_argument("--mode", choices=meters.MODES, default="7", help="the security mode where the list names none, 7 where none is named here")
     made.add_argument("--heard", action="store_true", help="leaves out meters that weren't heard yet")
     made.add_argument("--own", metavar="ADDRESS", help="the collector's own address, with the first meters")
     made = command("correct", _correct, "gives a meter another key in the place of its own, which was wrong; it is asked for as with `add`")
     made.add_argument("address", metavar="METER", type=_text)
-    made.add_argument("--mode", choices=MODES, help="its security mode too, where that was wrong")
+    made.add_argument("--mode", choices=meters.MODES, help="its security mode too, where that was wrong")
+    made.add_argument("--anew", action="store_true", help="it counts anew, as where its electronics were exchanged: forgets its last number;"
+                                                          " takes no key that it had")
     made = command("retire", _retire, "says that meters are out of service: nothing of them is missed any more; readings, counters and keys"
                                       " stay")
     made.add_argument("addresses", metavar="METER", type=_text, nargs="+")
@@ -299,8 +300,8 @@ def _correct(asked: argparse.Namespace) -> int:
     config, address = _config(asked), asked.address.lower()
     with _opened(config) as database:
         meters.judge_known(database, address, f"meter {address}")
-        meters.correct_key(config, database, address, _key_of(address), asked.mode)
-    print(f"meter {address} has another key" + (f", in mode {asked.mode}" if asked.mode else ""))
+        meters.correct_key(config, database, address, _key_of(address), asked.mode, asked.anew)
+    print(f"meter {address} has another key" + (f", in mode {asked.mode}" if asked.mode else "") + (", and counts anew" if asked.anew else ""))
     return DONE
 
 

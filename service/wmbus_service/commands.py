@@ -4,7 +4,8 @@ from __future__ import annotations
 import re
 import sqlite3
 
-from .meters import judge_in_service, judge_known
+from . import store
+from .meters import judge_former, judge_in_service, judge_known, keys_name, with_noted
 from .publications import Publications
 from .store import transaction
 from .trouble import Trouble
@@ -22,7 +23,13 @@ def put_command(database: sqlite3.Connection, ident: str, address: str, payload:
 
 def put_key(database: sqlite3.Connection, ident: str, address: str, key: str, now: float) -> bool:
     """Takes a meter's new second key; whether its id is new."""
-    return _put(database, ident, address.lower(), "rekey", key_of(f"command {ident}", key), now)
+    key, place, address = key_of(f"command {ident}", key), f"meter {address}", address.lower()
+    told, row = store.setting(database, keys_name(address)), database.execute("select block from meter where address = ?", (address,)).fetchone()
+    judge_former(told, key, place)
+    if row:
+        # (the second key that it has may be replaced)
+        store.set_setting(database, keys_name(address), with_noted(told, row[0]))
+    return _put(database, ident, address, "rekey", key, now)
 
 
 def payload_of(ident: str, payload: str) -> str:

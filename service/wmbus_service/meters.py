@@ -1,6 +1,7 @@
 """The meters that the service knows: how they come into the database, and their line of a roster."""
 from __future__ import annotations
 
+import hashlib
 import json
 import logging
 import sqlite3
@@ -17,6 +18,7 @@ from .trouble import Trouble
 log = logging.getLogger("wmbus")
 
 MODE_PLACE, KEY_PLACE, OTHER_PLACE, LAST_PLACE, DOWN_PLACE = 2, 3, 4, 5, 6
+MODES = ("5", "7")
 MOST_NAME = 80
 # a roster that the program judges has so many meters at most
 PIECE = 4096
@@ -191,12 +193,60 @@ def with_mode(block: str, mode: str, place: object) -> str:
     return f"{' '.join(fields)}\n{rest}"
 
 
-def correct_key(config: Config, database: sqlite3.Connection, address: str, key: str, mode: str | None = None) -> None:
-    """Gives a meter another key, and another mode where one is named. What was refused under those before is told no more."""
+def keys_name(address: str) -> str:
+    """The setting that has the digests of the keys that a meter had: `former` of those under which it counted before it counted anew, and
+    `since` of those behind them."""
+    return f"keys {address}"
+
+
+def with_noted(told: str | None, block: str) -> str:
+    """These digests with those of a block's keys."""
+    noted, fields = _noted(told), block.partition("\n")[0].split(" ")
+    keys = (key for key in (fields[KEY_PLACE], fields[OTHER_PLACE]) if key != "-")
+    return json.dumps({**noted, "since": list(dict.fromkeys([*noted["since"], *map(_digest, keys)]))})
+
+
+def judge_former(told: str | None, key: str, place: object) -> None:
+    """A key under which a meter counted before it counted anew is taken no more: what it sent under it could come again."""
+    if _digest(key) in _noted(told)["former"]:
+        raise Trouble(place, "it had this key before it counted anew, and what it sent under it could come again", "give it the one of now")
+
+
+def counted_anew(told: str, block: str, key: str, place: object) -> tuple[str, str]:
+    """The digests, and a meter's block without the last number, as where its electronics were exchanged; under a key that it never had, since
+    under another one all that it ever sent could come again. All else stays, its downlink counter first."""
+    noted = _noted(told)
+    if _digest(key) in noted["since"]:
+        raise Trouble(place, "where it counts anew its key is one that it never had, and this one it has or had",
+                      "ask for the key of its new electronics, or leave out --anew")
+    line, _, rest = block.partition("\n")
+    fields = line.split(" ")
+    fields[OTHER_PLACE] = fields[LAST_PLACE] = "-"
+    return json.dumps({"former": [*noted["former"], *noted["since"]], "since": []}), f"{' '.join(fields)}\n{rest}"
+
+
+def _noted(told: str | None) -> dict[str, list[str]]:
+    found: dict[str, list[str]] = json.loads(told) if told else {"former": [], "since": []}
+    return found
+
+
+def _digest(key: str) -> str:
+    return hashlib.sha256(key.encode()).hexdigest()
+
+
+def correct_key(config: Config, database: sqlite3.Connection, address: str, key: str, mode: str | None = None,
+                is_anew: bool = False) -> None:
+    """Gives a meter another key, and another mode where one is named; it may count anew. What was refused under those before is told no
+    more."""
     place = f"meter {address}"
     with store.transaction(database):
         judge_known(database, address, place)
         (block,) = database.execute("select block from meter where address = ?", (address,)).fetchone()
+        told = with_noted(store.setting(database, keys_name(address)), block)
+        judge_former(told, key, place)
+        if is_anew:
+            told, block = counted_anew(told, block, key, place)
+        store.set_setting(database, keys_name(address), told)
         block = with_mode(block, mode, place) if mode else block
         block = with_key(words_of(config.programs.steps), store.setting(database, "own") or "", block, key, place)
         database.execute("update meter set block = ? where address = ?", (block, address))

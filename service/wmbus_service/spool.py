@@ -102,6 +102,14 @@ def size_of(path: Path) -> int:
         return 0
 
 
+def written_at(path: Path) -> float:
+    """When something was written into a file last; 0 where a session took it away meanwhile."""
+    try:
+        return path.stat().st_mtime
+    except FileNotFoundError:
+        return 0.0
+
+
 def sync(opened: int) -> None:
     """Has a file stand on the disk."""
     os.fsync(opened)

@@ -12,9 +12,10 @@ from . import service, store
 from .asking import Database
 from .config import Config
 from .meters import day_of
+from .page import radios
 from .retention import DAY, HEARD, seconds_behind, went_forward
 from .sensors import NUMBER
-from .spool import size_of
+from .spool import place_of, size_of, written_at
 
 LAST = 10
 # (looked for in the index alone, since a meter has many)
@@ -31,6 +32,7 @@ def figures(config: Config, database: sqlite3.Connection) -> dict[str, Any]:
         "no_session_seconds": round(service.still_seconds(config.folder, now)) if is_running else 0,
         # (where it doesn't run nothing is let go, and no clock does harm)
         "clock_went_forward": round(seconds_behind(database, now)) if is_running else 0,
+        "receivers": receivers(config, database, now),
         "totals": dict(database.execute("select name, value from total order by name").fetchall()),
         "meters": [meter(database, row, now) for row in meters],
         "retired": _rows(database, f"select address, name, retired, (select {HEARD} from reading where id ="
@@ -48,6 +50,18 @@ def figures(config: Config, database: sqlite3.Connection) -> dict[str, Any]:
         "publications_oldest_seconds": round(oldest_publication(database, now)),
         "spooled_bytes": waiting_bytes(config, database),
     }
+
+
+def receivers(config: Config, database: sqlite3.Connection, now: float) -> list[dict[str, Any]]:
+    """How long ago each receiver of the configuration was heard, also by lines that no session has taken yet."""
+    found = []
+    for radio in radios.receivers(config, database, now):
+        if radio.is_configured:
+            waiting = [path for path in config.spool.glob(f"{radio.name}.*.lines")
+                       if size_of(path) > place_of(database, radio.name, path.name)]
+            heard = max([radio.heard or 0.0, *map(written_at, waiting)])
+            found.append({"name": radio.name, "age": max(0, round(now - heard)) if heard else None, "was_heard": radio.was_heard})
+    return found
 
 
 def _rows(database: sqlite3.Connection, query: str) -> list[dict[str, Any]]:
@@ -100,6 +114,8 @@ def in_words(told: dict[str, Any]) -> Iterator[str]:
         yield went_forward(told["clock_went_forward"])
     totals = told["totals"]
     yield f"{totals.get('lines', 0)} lines heard, {totals.get('stored', 0)} readings; {told['spooled_bytes']} bytes wait in the spool"
+    for it in told["receivers"]:
+        yield receiver_words(it)
     for it in told["meters"]:
         name = f"{it['address']} {it['name']}".strip()
         if it["age"] is None:
@@ -127,6 +143,15 @@ def in_words(told: dict[str, Any]) -> Iterator[str]:
                f" {told['publications_oldest_seconds'] // 3600} hours")
     if left_out := totals.get("publications_left_out"):
         yield f"{left_out} messages weren't published, since too many waited for the MQTT broker, later ones of their topics among them"
+
+
+def receiver_words(told: dict[str, Any]) -> str:
+    """When a receiver was heard; of one that stands still what to do."""
+    name, age = told["name"], told["age"]
+    if age is not None and age <= radios.SILENCE:
+        return f"receiver {name}: heard {age} s ago"
+    what = radios.silence(age) if age is not None else "silent for long" if told["was_heard"] else "heard nothing"
+    return f"receiver {name}: {what}: is it plugged in, and does its unit run (journalctl -u wmbus-receiver@{name})?"
 
 
 def status(config: Config, is_json: bool) -> str:

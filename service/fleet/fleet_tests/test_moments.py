@@ -425,6 +425,18 @@ def test_a_copy_of_the_release_before(fleet: Fleet, restored: Config, tmp_path: 
         assert {block.split(" ")[6] for (block,) in database.execute("select block from meter")} == {"50"}
 
 
+def test_what_postgresql_knows_of_a_restored_copy(fleet: Fleet, restored: Config, tmp_path: Path) -> None:
+    """How many rows its tables have, and which values, before any part works over it: else questions go the long way until it looks itself."""
+    fleet.database.execute("insert into line (number, address, text, made) select n, 'a' || n % 7, 'A 1 00', 1 from generate_series(1, 500) n")
+    backup.back_up(fleet.config, tmp_path / "copy")
+    backup.restore(restored, tmp_path / "copy", 50)
+    with store.connect(restored.database) as database:
+        counts = store.pairs(database, "select relname, reltuples from pg_class where relnamespace = 'public'::regnamespace"
+                                       " and relkind in ('r', 'p')")
+        assert counts["line"] == 500 and counts["meter"] == 3 and min(counts.values()) == 0
+        assert store.one(database, "select n_distinct from pg_stats where tablename = 'line' and attname = 'address'") == 7
+
+
 def stand_ins(folder: Path, **programs: str) -> str:
     """Programs of PostgreSQL's that do something else; the path that finds them first."""
     for name, does in programs.items():

@@ -7,21 +7,25 @@ import time
 import tracemalloc
 from collections.abc import Iterator
 from contextlib import contextmanager
+from dataclasses import replace
 from pathlib import Path
 from typing import Any
 
 import pytest
+from messages import whole
 from tests.kill import PYTHON
-from wmbus_fleet import broker, commandline, commands, metrics, store
+from tests.meters import Meter, line_of, payload_of
+from wmbus_fleet import broker, commandline, commands, metrics, sessions, store
 from wmbus_fleet.messages import lines_body
 from wmbus_fleet.own_servers import RABBIT
 from wmbus_fleet.status import figures, in_words
 from wmbus_fleet.view.app import create_app
 from wmbus_service.trouble import Trouble
 
-from .test_parts import Fleet, fleet
+from .test_parts import DAY, NOW, Fleet, fleet
+from .test_retired import Desk, desk
 
-__all__ = ["fleet"]
+__all__ = ["desk", "fleet"]
 
 
 def data(fleet: Fleet, path: str, **asked: str) -> Any:
@@ -46,7 +50,42 @@ def test_a_meter_that_two_gateways_hear(fleet: Fleet, repeat: str) -> None:
     assert metrics.take(fleet.config).labelled["area_refusals"] == {fleet.area: 3.0}
 
 
-@pytest.mark.parametrize("wanted", ["02000002", "0200 0002", "02.00.00.02", "ABC 02000002", "abc02000002", "ELS 02000002 01 07", "02000002 01 07"])
+def test_a_meter_whose_counter_was_set_back(fleet: Fleet, desk: Desk) -> None:
+    """It is heard, and each of its messages is refused as stale: it is told as that, by `status`, overview, lists, metrics and its own page,
+    and not as silent. One that repeats the last message that was stored, and one of which copies come, aren't so."""
+    now, meter = time.time(), fleet.meters[1]
+    back, repeating, copied = meter.name, fleet.meters[0].name, fleet.meters[2].name
+    hear(fleet, meter, 900)
+    hear(fleet, meter, 3)
+    for line, address, words in ((7, repeating, "stale 900 900"), (8, copied, "stale 899 900")):
+        fleet.database.execute("insert into refusal values (%s, 'stale', %s, 5, 1, 1)", (address, words))
+        fleet.database.execute("insert into reading values (%s, %s, 'gw', 900, 1, '', null, false, '[]', 1)", (line, address))
+    fleet.database.execute("update refusal set last_made = %s", (now - 60,))
+    fleet.database.execute("update reading set made = case address when %s then %s else %s end", (copied, now - 120, now - 3 * DAY))
+    fleet.database.execute("update meter m set gateway = %s, heard = (select made from reading r where r.address = m.address)", (fleet.gateway,))
+    told = data(fleet, "/api/overview")
+    assert [(it["what"], it["title"], it["link"]) for it in told["looks"] if "meter" in it["link"]] == [
+        ("counter set back", "1 meter", "/meters?state=set-back"), ("silent", "1 meter", "/meters?state=stopped")]
+    assert [it["silent_meters"] for it in told["areas"]] == [1]
+    found = {state: [it["address"] for it in data(fleet, "/api/meters", state=state)["meters"]]
+             for state in ("set-back", "silent", "stopped", "refused", "unread")}
+    assert found == {"set-back": [back], "silent": [repeating], "stopped": [repeating], "refused": [], "unread": []}
+    assert [metrics.take(fleet.config).gauges[f"meters_{it}"] for it in ("set_back", "silent")] == [1, 1]
+    said = [line for line in desk.say("status")[1].splitlines() if "set back" in line]
+    assert len(said) == 1 and said[0].startswith(f"1 meter has a counter below the last stored one, first {back}: ")
+    looks = {address: [it["what"] for it in data(fleet, f"/api/meters/{address}")["looks"]] for address in (back, repeating, copied)}
+    assert looks == {back: ["counter set back"], repeating: ["silent for 3 days"], copied: []}
+    # (as of copies that a gateway which was cut off sent later: it is silent again)
+    fleet.database.execute("update refusal set last_made = %s where address = %s", (now - 2.5 * DAY, back))
+    assert sorted(it["address"] for it in data(fleet, "/api/meters", state="stopped")["meters"]) == sorted([back, repeating])
+    fleet.database.execute("update refusal set last_made = %s", (now - 60,))
+    fleet.database.execute("update meter set retired = %s", (now,))
+    assert not data(fleet, "/api/meters", state="set-back")["meters"] and "set back" not in desk.say("status")[1]
+    assert data(fleet, "/api/overview")["counts"]["set_back"] == 0 and not data(fleet, f"/api/meters/{back}")["looks"]
+
+
+@pytest.mark.parametrize("wanted", ["02000002", "0200 0002", "02.00.00.02", "ABC 02000002", "abc02000002", "ELS 02000002 01 07", "02000002 01 07",
+                                    "2000002", "2 000 002", "8 ELS 01 02000002"])
 def test_a_label_as_it_is_written(fleet: Fleet, wanted: str) -> None:
     """A meter is found by what its label has, and by what the page itself writes of it."""
     fleet.database.execute("update meter set address = '9315' || '02000002' || '0107' where address = %s", (fleet.meters[0].name,))
@@ -83,6 +122,59 @@ def test_an_id_of_another_command(fleet: Fleet) -> None:
         with pytest.raises(Trouble, match="another command has this id"):
             commands.put_command(fleet.database, ident, address, payload, 3)
     assert store.pairs(fleet.database, "select id, made from command") == {"c1": 1, "k1": 1}
+
+
+def hear(fleet: Fleet, meter: Meter, number: int) -> None:
+    """A session hears a meter's message of mode 7 with this counter."""
+    text = line_of(whole(meter.key, meter.address, number, payload_of(number), 0x44, None), int(NOW)).rstrip()
+    store.copy_rows(fleet.database, "inbox (address, gateway, epoch, message, place, text)", [(meter.name, fleet.gateway, 1, number, 1, text)])
+    shard = store.one(fleet.database, "select shard_of(%s)", (meter.name,))
+    assert sessions.Sessions(fleet.config, fleet.database).session(shard, NOW)
+
+
+def test_a_mode_that_is_corrected(fleet: Fleet, desk: Desk) -> None:
+    """A meter that was commissioned in mode 5 and sends in mode 7 is read from then on where its mode is corrected; and one of which messages
+    of mode 7 were stored stays in it, since no counter would keep them from coming again."""
+    meter = fleet.meters[1]
+    as_five = meter.line().replace(" 7 ", " 5 ")
+    fleet.database.execute("update meter set block = %s where address = %s", (as_five, meter.name))
+    hear(fleet, meter, 1)
+    assert fleet.database.execute("select address, words from refusal").fetchall() == [(meter.name, "mode 7 5")]
+    key = f"{meter.key.hex()}\n"
+    assert desk.say("correct", meter.name.upper(), "--mode", "7", given=key) == (0, f"meter {meter.name} has another key, in mode 7")
+    assert store.one(fleet.database, "select count(*) from refusal") == 0
+    hear(fleet, meter, 2)
+    assert fleet.database.execute("select address, counter from reading").fetchall() == [(meter.name, 2)]
+    status, told = desk.say("correct", meter.name, "--mode", "5", given=key)
+    assert status == 1 and "stays in this mode" in told
+    assert desk.say("correct", meter.name, "--mode", "7", given=key)[0] == desk.say("correct", meter.name, given=key)[0] == 0
+    assert store.one(fleet.database, "select block from meter where address = %s", (meter.name,)).startswith(
+        f"meter {meter.name} 7 {meter.key.hex()} - 2 0 ")
+
+
+def test_a_meter_that_counts_anew(fleet: Fleet, desk: Desk) -> None:
+    """As one whose electronics were exchanged: under its new key its messages are stored again from the first one on, and under a key that it
+    had before it is taken neither then nor later."""
+    meter = fleet.meters[1]
+    before, after = f"{meter.key.hex()}\n", f"{'e' * 32}\n"
+    exchanged = replace(meter, key=bytes.fromhex("e" * 32))
+    for number in (900, 3):
+        hear(fleet, meter, number)
+    for second in ("c", "d"):
+        assert desk.say("rekey", meter.name, given=f"{second * 32}\n")[0] == 0
+        hear(fleet, meter, 900)
+    for known in (before, f"{'c' * 32}\n", f"{'d' * 32}\n"):
+        status, told = desk.say("correct", meter.name, "--anew", given=known)
+        assert status == 1 and "one that it never had" in told
+    assert desk.say("correct", meter.name, "--anew", given=after) == (0, f"meter {meter.name} has another key, and counts anew")
+    assert store.one(fleet.database, "select count(*) from refusal") == 0
+    for spoken, number in ((exchanged, 5), (meter, 901), (exchanged, 6), (exchanged, 5)):
+        hear(fleet, spoken, number)
+    assert fleet.database.execute("select counter from reading order by line").fetchall() == [(900,), (5,), (6,)]
+    for words in (("correct", meter.name), ("correct", meter.name, "--anew"), ("rekey", meter.name.upper())):
+        status, told = desk.say(*words, given=before)
+        assert status == 1 and "it had this key before" in told
+    assert desk.say("correct", meter.name, given=f"{'f' * 32}\n")[0] == 0
 
 
 def test_commands_of_a_meter_that_there_is_none_of(fleet: Fleet, tmp_path: Path, capsys: pytest.CaptureFixture[str]) -> None:

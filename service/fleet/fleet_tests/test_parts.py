@@ -134,6 +134,15 @@ def test_what_is_no_longer_kept_begins_an_epoch(house: House) -> None:
     assert house.messages() == {1: (b"A 2 00\n", False)}
 
 
+def test_what_is_kept_for_ever(house: House) -> None:
+    """0 days are no limit, as in [keep]: what the fleet asks for is sent again, and no epoch begins."""
+    house.agent.told = replace(house.told, keep=0)
+    house.agent.forget(NOW + 9999 * DAY)
+    house.agent.send_again(Again("gw1", int(NOW), 2), NOW + 9999 * DAY)
+    assert house.agent.numbering() == (int(NOW), 3)
+    assert [(number, is_done) for number, (_, is_done) in house.messages().items()] == [(1, True), (2, False), (3, False)]
+
+
 def test_what_the_broker_hasnt_stays(house: House) -> None:
     """However old it is."""
     house.database.execute("update message set acknowledged = 0 where number = 1")

@@ -262,6 +262,33 @@ def test_the_words(fleet: Fleet, tmp_path: Path, capsys: pytest.CaptureFixture[s
     assert not any(key in said_all for key in ["f" * 32, *(meter.key.hex() for meter in meters)])
 
 
+def test_gateways_of_which_one_is_wrong(fleet: Fleet, tmp_path: Path, capsys: pytest.CaptureFixture[str]) -> None:
+    """All that are named are made or taken away, or none: neither in the database nor with RabbitMQ, and no file is written."""
+    path, names = written(fleet, tmp_path / "fleet.toml"), (f"{fleet.area}-x", f"{fleet.area}-y")
+    out, file = tmp_path / "out", tmp_path / "file"
+    file.write_text("")
+
+    def said(*words: str) -> tuple[int, str]:
+        status = commandline.main(["--config", str(path), *words])
+        told = capsys.readouterr()
+        return status, (told.out + told.err).strip()
+
+    def known() -> dict[str, bool]:
+        return store.pairs(fleet.database, "select name, gone is null from gateway where name = any(%s)", (list(names),))
+    asked = administration.Administration(fleet.config.broker)
+    for words, wanted in (((fleet.area, names[0], "BAD"), "the name BAD"), ((fleet.area, names[0], "guest"), "the fleet's own user"),
+                          (("nowhere", *names), "no such area")):
+        status, told = said("gateways", *words, "--files", str(out))
+        assert status == 1 and wanted in told and not known() and not out.exists() and not asked.knows(names[0])
+    status, told = said("gateways", fleet.area, *names, "--files", str(file / "out"))
+    assert status == 1 and f"{file}/out: " in told and not known() and not asked.knows(names[0])
+    assert said("gateways", fleet.area, *names, names[0], "--files", str(out))[1].startswith("2 new gateways")
+    status, told = said("remove", names[0], "nobody", names[1])
+    assert status == 1 and "gateway nobody: there is no such gateway" in told
+    assert known() == dict.fromkeys(names, True) and all(asked.knows(name) for name in names)
+    assert said("remove", *names)[0] == 0 and known() == dict.fromkeys(names, False) and not any(asked.knows(name) for name in names)
+
+
 def test_each_word_has_its_help(capsys: pytest.CaptureFixture[str]) -> None:
     """What the command takes stands in its help, which says what the exit statuses mean."""
     with pytest.raises(SystemExit):

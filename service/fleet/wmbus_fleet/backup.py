@@ -64,6 +64,8 @@ def restore(config: Config, source: Path, margin: int) -> int:
     with store.connect(config.database, is_restored=False) as database, store.transaction(database):
         count = raise_counters(config, database, margin)
         _give_up(database, time.time())
+        # (a copy has no figures of its tables, and without them each question goes the long way until PostgreSQL takes some)
+        database.execute("analyze")
         database.execute("drop table restoring")
     return count
 

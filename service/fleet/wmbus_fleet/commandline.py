@@ -17,6 +17,7 @@ import psycopg
 from wmbus_service.config import read_config as read_service
 from wmbus_service.ending import Ending
 from wmbus_service.memory_files import leave_no_core
+from wmbus_service.meters import MODES
 from wmbus_service.page.shared import counted
 from wmbus_service.printing import leave_unread, parsed
 from wmbus_service.trouble import Trouble
@@ -138,6 +139,9 @@ def _operating_words(command: Command) -> None:
     made.add_argument("--cancel", metavar="ID", help="has this command not be sent any more")
     made = command("correct", _correct, "gives a meter another key in the place of its own, which was wrong; it is asked for as with `rekey`")
     made.add_argument("address", metavar="METER")
+    made.add_argument("--mode", choices=MODES, help="its security mode too, where that was wrong")
+    made.add_argument("--anew", action="store_true", help="it counts anew, as where its electronics were exchanged: forgets its last number;"
+                                                          " takes no key that it had")
     made = command("rekey", _rekey, "gives a meter of mode 7 its new second key, which is asked for, or read from the standard input")
     made.add_argument("address", metavar="METER")
     made = command("retire", _retire, "says that meters are out of service: nothing of them is missed any more; readings, counters and keys"
@@ -174,7 +178,7 @@ def _area(config: Config, asked: argparse.Namespace) -> None:
 
 def _gateways(config: Config, asked: argparse.Namespace) -> None:
     with store.connect(config.database) as database:
-        count = sum(gateways.add(config, database, asked.area, name, asked.files) for name in asked.names)
+        count = gateways.add_all(config, database, asked.area, asked.names, asked.files)
     print(f"{count} new gateways")
     if asked.files and not config.broker.from_outside().host:
         print(f"their {gateways.SETTINGS} lack broker.host: write the broker's name there, or name it once as host under [broker.outside] in"
@@ -183,8 +187,7 @@ def _gateways(config: Config, asked: argparse.Namespace) -> None:
 
 def _remove(config: Config, asked: argparse.Namespace) -> None:
     with store.connect(config.database) as database:
-        for name in asked.names:
-            gateways.remove(config, database, name)
+        gateways.remove_all(config, database, asked.names)
 
 
 def _commission(config: Config, asked: argparse.Namespace) -> None:
@@ -257,9 +260,11 @@ def _key() -> str:
 
 
 def _correct(config: Config, asked: argparse.Namespace) -> None:
+    address = asked.address.lower()
     with store.connect(config.database) as database:
-        commands.correct_key(config, database, asked.address, _key())
-    print(f"meter {asked.address.lower()} has another key")
+        commands.block_of(database, address, f"meter {asked.address}")
+        commands.correct_key(config, database, address, _key(), asked.mode, asked.anew)
+    print(f"meter {address} has another key" + (f", in mode {asked.mode}" if asked.mode else "") + (", and counts anew" if asked.anew else ""))
 
 
 def _rekey(config: Config, asked: argparse.Namespace) -> None:

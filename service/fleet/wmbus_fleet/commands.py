@@ -9,7 +9,9 @@ from pathlib import Path
 from wmbus_service.commands import OPEN, judge_ident, key_of, payload_of
 from wmbus_service.config import NAME, words_of
 from wmbus_service.importing import ADDRESS
-from wmbus_service.meters import PIECE, judge_roster, meters_in, name_of, pieces_of, read_roster, with_key
+from wmbus_service.meters import (
+    PIECE, counted_anew, judge_former, judge_roster, keys_name, meters_in, name_of, pieces_of, read_roster, with_key, with_mode, with_noted,
+)
 from wmbus_service.trouble import Trouble
 
 from . import broker, retiring, store
@@ -26,18 +28,30 @@ def put_command(database: Database, ident: str, address: str, payload: str, now:
 
 def put_key(database: Database, ident: str, address: str, key: str, now: float) -> bool:
     """Takes a meter's new second key; whether its id is new."""
-    return _put(database, ident, address.lower(), "rekey", key_of(f"command {ident}", key), now)
+    key, place, address = key_of(f"command {ident}", key), f"meter {address}", address.lower()
+    told = store.setting(database, keys_name(address))
+    judge_former(told, key, place)
+    # (the second key that it has may be replaced)
+    store.set_setting(database, keys_name(address), with_noted(told, block_of(database, address, f"command {ident}")))
+    return _put(database, ident, address, "rekey", key, now)
 
 
-def correct_key(config: Config, database: Database, address: str, key: str) -> None:
-    """Gives a meter another key in the place of its own, which was wrong; all else that is known of it stays, its counters first. What was
-    refused under the one before is told no more."""
+def correct_key(config: Config, database: Database, address: str, key: str, mode: str | None = None, is_anew: bool = False) -> None:
+    """Gives a meter another key in the place of its own, which was wrong, and another mode where one is named; it may count anew. All else
+    that is known of it stays, its downlink counter first. What was refused under those before is told no more."""
     place, address = f"meter {address}", address.lower()
+    key = key_of(place, key)
     with store.transaction(database):
         # (a session that has the meter in hand ends before)
         database.execute("select pg_advisory_xact_lock(%s, shard_of(%s))", (store.SESSIONS, address))
         block = block_of(database, address, place)
-        block = with_key(words_of(config.programs.steps), store.setting(database, "own") or "", block, key_of(place, key), place)
+        told = with_noted(store.setting(database, keys_name(address)), block)
+        judge_former(told, key, place)
+        if is_anew:
+            told, block = counted_anew(told, block, key, place)
+        store.set_setting(database, keys_name(address), told)
+        block = with_mode(block, mode, place) if mode else block
+        block = with_key(words_of(config.programs.steps), store.setting(database, "own") or "", block, key, place)
         database.execute("update meter set block = %s where address = %s", (block, address))
         database.execute("delete from refusal where address = %s", (address,))
 
@@ -98,14 +112,19 @@ def add_area(config: Config, database: Database, name: str) -> None:
 
 def add_gateway(config: Config, database: Database, area: str, name: str) -> bool:
     """Makes a gateway known, with its queue, or moves it to another area; whether it is new."""
-    _judge_name(name)
-    if not database.execute("select 1 from area where name = %s", (area,)).fetchone():
-        raise Trouble(f"area {area}", "there is no such area", f"`wmbus-fleet area {area}` makes it")
+    judge_gateway(database, area, name)
     is_new = database.execute("select 1 from gateway where name = %s", (name,)).fetchone() is None
     database.execute("insert into gateway (name, area) values (%s, %s) on conflict (name) do update set area = excluded.area", (name, area))
     with broker.connected(config.broker) as connection:
         broker.declare_gateway(broker.opened(connection), name)
     return is_new
+
+
+def judge_gateway(database: Database, area: str, name: str) -> None:
+    """Whether a gateway may have this name, and be in this area."""
+    _judge_name(name)
+    if not database.execute("select 1 from area where name = %s", (area,)).fetchone():
+        raise Trouble(f"area {area}", "there is no such area", f"`wmbus-fleet area {area}` makes it")
 
 
 def _judge_name(name: str) -> None:

@@ -85,7 +85,7 @@ class Gateway:
     # lines of so many seconds go into one message, and an empty one goes out after so much silence
     interval: float = 2.0
     silence: float = 60.0
-    # for how many days messages are kept, to be sent again
+    # for how many days messages are kept, to be sent again; 0 keeps them for ever
     keep: int = 7
 
 

@@ -138,8 +138,9 @@ class Agent:
         return len(rows)
 
     def forget(self, now: float) -> None:
-        """Old messages go; none that isn't acknowledged."""
-        self.database.execute("delete from message where acknowledged and made < ?", (now - self.told.keep * DAY,))
+        """Old messages go; none that isn't acknowledged, and none at all where they are kept for ever."""
+        if self.told.keep:
+            self.database.execute("delete from message where acknowledged and made < ?", (now - self.told.keep * DAY,))
 
     # ---- what it is told
 

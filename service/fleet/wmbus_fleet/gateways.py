@@ -3,6 +3,7 @@ from __future__ import annotations
 
 import os
 import secrets
+from collections.abc import Sequence
 from contextlib import suppress
 from pathlib import Path
 
@@ -18,16 +19,38 @@ SETTINGS, PASSWORD = "fleet.toml", "broker.password"
 NO_MORE = 1 << 62
 
 
+def add_all(config: Config, database: Database, area: str, names: Sequence[str], folder: Path | None) -> int:
+    """Makes gateways known, or moves them to another area, none of them where one can't be made; how many are new."""
+    judged = {name: _judged(config, database, area, name, folder) for name in names}
+    return sum(_add(config, database, area, name, folder, *told) for name, told in judged.items())
+
+
 def add(config: Config, database: Database, area: str, name: str, folder: Path | None) -> bool:
-    """Makes a gateway known, or moves it to another area; whether it is new. Where users are made, a new one gets a user with a password,
-    which a folder for it gets with its configuration, and a known one gets a new password where a folder is named."""
-    asked = administration_for(config, name)
+    """Makes one known, or moves it; whether it is new."""
+    return add_all(config, database, area, [name], folder) == 1
+
+
+def _judged(config: Config, database: Database, area: str, name: str, folder: Path | None) -> tuple[Administration | None, bool]:
+    """Whether a gateway may be made: who makes its user, where users are made, and whether it is known."""
     is_known = database.execute("select 1 from gateway where name = %s and gone is null", (name,)).fetchone() is not None
+    commands.judge_gateway(database, area, name)
+    asked = administration_for(config, name)
     if folder is None and asked and not (is_known and asked.knows(name)):
         raise Trouble(f"gateway {name}", "its password has to go somewhere", "name a folder: --files FOLDER")
     if folder is not None and asked is None:
         # (says what lacks)
         Administration(config.broker)
+    if folder is not None:
+        above = next(it for it in (folder, *folder.absolute().parents) if it.exists())
+        if not above.is_dir() or not os.access(above, os.W_OK | os.X_OK):
+            raise Trouble(folder, f"the gateways' files can't be written: {above} is no folder that may be written into")
+    return asked, is_known
+
+
+def _add(config: Config, database: Database, area: str, name: str, folder: Path | None, asked: Administration | None,
+         is_known: bool) -> bool:
+    """Makes a gateway known, or moves it; whether it is new. Where users are made, a new one gets a user with a password, which a folder for
+    it gets with its configuration, and a known one gets a new password where a folder is named."""
     is_new = commands.add_gateway(config, database, area, name)
     database.execute("update gateway set gone = null, until = least(until, extract(epoch from now())::bigint) where name = %s", (name,))
     if asked:
@@ -83,12 +106,25 @@ def _write(path: Path, text: str) -> None:
         file.write(text)
 
 
+def remove_all(config: Config, database: Database, names: Sequence[str]) -> None:
+    """Takes gateways away, none of them where one can't be."""
+    judged = {}
+    for name in names:
+        if not database.execute("select 1 from gateway where name = %s", (name,)).fetchone():
+            raise Trouble(f"gateway {name}", "there is no such gateway", "`wmbus-fleet status --gateways` names all")
+        judged[name] = administration_for(config, name)
+    for name, asked in judged.items():
+        _remove(config, database, name, asked)
+
+
 def remove(config: Config, database: Database, name: str) -> None:
+    """Takes one away."""
+    remove_all(config, database, [name])
+
+
+def _remove(config: Config, database: Database, name: str, asked: Administration | None) -> None:
     """Takes a gateway away: its user, its connections, its queue. What it sent stays, and so does its fence: where it comes back, nothing
     of it is taken twice."""
-    if not database.execute("select 1 from gateway where name = %s", (name,)).fetchone():
-        raise Trouble(f"gateway {name}", "there is no such gateway", "`wmbus-fleet status --gateways` names all")
-    asked = administration_for(config, name)
     if asked:
         asked.remove(name)
     with store.transaction(database):

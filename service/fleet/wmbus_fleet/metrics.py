@@ -40,6 +40,7 @@ GAUGES = {
     "inbox_lines": "lines that wait for a session", "meters": "meters that are known",
     "meters_retired": "meters that are out of service",
     "meters_silent": "meters in service without a reading for two days",
+    "meters_set_back": "meters in service that are heard, and whose counter is below the last stored one",
     "meters_unheard": "meters in service that never had a reading", "downlinks_waiting": "downlinks that the broker hasn't got yet",
     "downlinks_waiting_seconds": "how long ago the oldest of these was made", "commands_open": "commands that aren't done",
     "commands_open_seconds": "how long ago the oldest of these was put", "downlinks_missed": "downlinks that weren't sent in time",
@@ -62,7 +63,7 @@ QUERIES = {
     "gateways_clock_seconds": AHEAD, "downlinks_waiting_seconds": AGES["downlinks"], "commands_open_seconds": AGES["commands"],
 }
 NAMES = {"lag_seconds": "lag", "inbox_lines": "inbox", "meters": "meters", "meters_silent": "silent_meters",
-         "meters_retired": "retired", "meters_unheard": "unheard_meters", "downlinks_waiting": "downlinks_waiting",
+         "meters_retired": "retired", "meters_set_back": "set_back", "meters_unheard": "unheard_meters", "downlinks_waiting": "downlinks_waiting",
          "commands_open": "commands"}
 
 

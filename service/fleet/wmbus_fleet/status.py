@@ -8,7 +8,8 @@ from typing import Any
 
 from psycopg.rows import dict_row
 from wmbus_service.commands import OPEN
-from wmbus_service.page.shared import REPEATS
+from wmbus_service.page.looks import LATE, METER_SILENCE
+from wmbus_service.page.shared import REPEATS, counted
 
 from . import store
 from .intake import remedy_of
@@ -22,6 +23,11 @@ SILENT = 600
 IS_SILENT = f"g.seen is null or g.seen < now() - interval '{SILENT} seconds'"
 # of a meter that several gateways hear the copies are refused all the time, and nobody has to look at it
 IS_REPEAT = f"r.reason in ({', '.join(map(repr, sorted(REPEATS)))})"
+# of a meter m in service: it is heard, and its counter is below the last stored one (as the page of the service tells it)
+IS_SET_BACK = f"""m.retired is null and coalesce(m.heard, 0) < extract(epoch from now()) - {LATE}
+    and exists (select 1 from refusal r where r.address = m.address and r.reason = 'stale'
+    and r.last_made > greatest(coalesce(m.heard, 0) + {LATE}, extract(epoch from now()) - {METER_SILENCE})
+    and case when r.words ~ '^stale [0-9]+ [0-9]+$' then split_part(r.words, ' ', 2)::numeric < split_part(r.words, ' ', 3)::numeric end)"""
 # by the gateway that heard a meter last
 REFUSALS = """
     select coalesce(g.area, '') as area, r.reason, sum(r.times)::bigint as times, count(*) as meters
@@ -56,6 +62,7 @@ def figures(database: Database) -> dict[str, Any]:
         "refusals_by_area": _rows(database, REFUSALS),
         **_rows(database, f"select count(*) as meters, count(retired) as retired, count(*) filter (where {IS_HEARD}) as retired_heard,"
                           f" min(address) filter (where {IS_HEARD}) as retired_first from meter m")[0],
+        **_rows(database, f"select count(*) as set_back, min(address) as set_back_first from meter m where {IS_SET_BACK}")[0],
         "inbox": store.one(database, "select count(*) from inbox"),
         "downlinks_waiting": store.one(database, "select count(*) from outbox where sent is null and missed is null"),
         "ages": {name: store.one(database, query) for name, query in AGES.items()},
@@ -128,6 +135,10 @@ def in_words(told: dict[str, Any]) -> Iterator[str]:
         yield f"downlink {it['down']} for {it['address']} wasn't sent: {it['missed']}"
     if told["retired_heard"]:
         yield f"{heard_words(told['retired_heard'])}, first {told['retired_first']}: `wmbus-fleet retire --back METER` puts one back"
+    if told["set_back"]:
+        yield (f"{counted(told['set_back'], 'meter has a counter', 'meters have counters')} below the last stored one, first"
+               f" {told['set_back_first']}: all that comes is refused as stale. Was it exchanged or set back? `wmbus-fleet correct METER --anew`"
+               " takes its new key")
     for it in told["refusals_by_area"]:
         yield f"refused in {it['area'] or 'no area'}: {it['times']} times {it['reason']}, of {it['meters']} meters"
     for it in told["refusals"]:

@@ -48,6 +48,8 @@ MOST_HEAD, MOST_BODY = 1 << 16, 1 << 20
 ENTERED_SECONDS = 12 * 3600
 LAST_MOMENT = (1 << 63) - 1
 MOST_SHOWN = 200
+# of what is looked for
+LONGEST = 80
 WORDS = {
     400: "The address or the form has something in it that can't be read.",
     403: "This needs the page's token, or the form has become too old: go back, load the page again, and send it once more.",
@@ -265,6 +267,25 @@ def _shows_retired() -> bool:
     return request.args.get("retired") == "1"
 
 
+@house.get("/meters")
+def meters() -> str:
+    """The meters that somebody looks for."""
+    return render_template("meters.html", **_meters())
+
+
+def _meters() -> dict[str, Any]:
+    config, now = config_now()
+    asked = {name: text_asked(name) for name in ("q", "order")}
+    if asked["order"] and asked["order"] not in views.ORDERS:
+        raise Worded(f"An order is one of {', '.join(views.ORDERS)}.")
+    return views.meters_page(config, database(), now, asked, _shows_retired())
+
+
+def text_asked(name: str) -> str:
+    """A word of the address, without the one sign that PostgreSQL has no texts with."""
+    return request.args.get(name, "").strip().replace("\0", "")[:LONGEST]
+
+
 @pages.get("/meters/<address>")
 def meter(address: str) -> str:
     """A meter."""
@@ -309,10 +330,8 @@ def api_overview() -> Response:
 
 @house.get("/api/meters")
 def api_meters() -> Response:
-    """All meters with their last values, of those in service or of those out of it."""
-    now, is_retired = config_now()[1], _shows_retired()
-    found = [it for it in reading.all_meters(database(), now) if (it.retired is not None) == is_retired]
-    return jsonify(now=now, meters=[views.meter_data(it) for it in found])
+    """The same as data."""
+    return jsonify(_meters())
 
 
 @pages.get("/api/meters/<address>")

@@ -11,12 +11,11 @@ from werkzeug.wrappers import Response
 
 from ..commands import KEY, joined, waiting_words
 from ..importing import ADDRESS
-from ..meters import name_of
+from ..meters import MODES, name_of
 from .app import Worded, clock, door_of, may_write, new_ident
 from .house import Retiring
 
 forms = Blueprint("forms", __name__)
-MODES = ("5", "7")
 
 
 @forms.before_request

@@ -63,7 +63,7 @@ class Retiring(Protocol):
 class HouseDoor:
     """The service's own database."""
 
-    links = (("/", "Overview"), ("/receivers", "Receivers"), ("/strangers", "Strangers"))
+    links = (("/", "Overview"), ("/meters", "Meters"), ("/receivers", "Receivers"), ("/strangers", "Strangers"))
     adding = "wmbus-service add"
     faults = sqlite3.Error
 

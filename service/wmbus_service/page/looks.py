@@ -1,6 +1,7 @@
 """What needs a person: what is wrong, with which meter, receiver or command, and what to do about it."""
 from __future__ import annotations
 
+import re
 from collections.abc import Iterator
 from dataclasses import dataclass
 from typing import Any
@@ -9,13 +10,12 @@ from ..asking import Database
 from ..config import Config
 from ..service import is_locked, still_seconds
 from ..status import oldest_publication, waiting_bytes
-from .radios import Radio
+from .radios import DAY, HOUR, SILENCE, Radio, silence
 from .reading import Meter, rows_of, strangers
 from .shared import REPEATS, WRONG_KEY, counted, row_of, time_text, times, words_of_page
 
-HOUR, DAY = 3600.0, 86_400.0
-# without a reading for so long a meter is called silent, and a receiver without a line
-METER_SILENCE, RADIO_SILENCE = 2 * DAY, HOUR
+# without a reading for so long a meter is called silent
+METER_SILENCE = 2 * DAY
 # after so long without a reading it counts that telegrams were refused since
 LATE = 6 * HOUR
 # what is older than this is told on its own page alone
@@ -26,6 +26,7 @@ MOST = 100
 WAITING_BYTES = 1 << 20
 # for so long a message for the broker may wait
 WAITING_SECONDS = HOUR
+STALE = re.compile("stale ([0-9]+) ([0-9]+)")
 STATES = {
     "waiting": "waits for the next session", "queued": "waits until the meter listens", "sent": "sent, and not confirmed yet",
     "confirmed": "confirmed by the meter", "expired": "given up: it was sent three times without an answer", "cancelled": "cancelled",
@@ -60,13 +61,6 @@ def explained(words: str) -> Explained:
     return Explained("words that the page of formats doesn't explain", "look at the telegram with <code>frame_inspect</code>")
 
 
-def silence(seconds: float) -> str:
-    """For how long nothing was heard."""
-    if seconds >= 2 * DAY:
-        return f"silent for {counted(int(seconds // DAY), 'day', 'days')}"
-    return f"silent for {counted(int(seconds // HOUR), 'hour', 'hours')}"
-
-
 def meter_looks(meter: Meter, refusals: list[dict[str, Any]], now: float) -> Iterator[Look]:
     """What is to be looked at of a meter, worst first."""
     link = f"/meters/{meter.address}"
@@ -83,6 +77,10 @@ def meter_looks(meter: Meter, refusals: list[dict[str, Any]], now: float) -> Ite
     if wrong_key:
         yield Look("bad", "key probably wrong", meter.title, link,
                    f"Its telegrams are heard, and none could be opened {_since(meter)}. Get this meter's right key.")
+    elif back := _set_back(meter, refusals, now):
+        yield Look("bad", "counter set back", meter.title, link,
+                   f"Its messages come, and none is stored, as their counters are below the last stored one ({back}). Its page says"
+                   " what to do.")
     elif later:
         yield Look("bad", "nothing stored", meter.title, link,
                    f"What came last was refused ({later[0]['words']}). Its page says why, and what to do.")
@@ -90,6 +88,16 @@ def meter_looks(meter: Meter, refusals: list[dict[str, Any]], now: float) -> Ite
         yield Look("bad", "not heard", meter.title, link, "Is it in reach, and is its address that of its label?")
     elif now - meter.heard > METER_SILENCE:
         yield Look("look", silence(now - meter.heard), meter.title, link, "Is it in reach, and has its battery run out?")
+
+
+def _set_back(meter: Meter, refusals: list[dict[str, Any]], now: float) -> str:
+    """How a meter's last message was refused, where it is heard and its counter is below the last stored one: long after its last reading,
+    so that it is no copy of what was stored, and with another counter than the last one, which some meters repeat for days."""
+    for row in refusals:
+        told = STALE.fullmatch(row["words"])
+        if told and int(told[1]) < int(told[2]) and row["last_made"] > max((meter.heard or 0) + LATE, now - METER_SILENCE):
+            return str(row["words"])
+    return ""
 
 
 def _since(meter: Meter) -> str:
@@ -106,7 +114,7 @@ def radio_looks(radio: Radio, now: float) -> Iterator[Look]:
     elif radio.heard is None:
         yield Look("bad", "silent for long", title, "/receivers",
                    f"What it heard is kept no longer, or was written while the clock was ahead. {to_do}")
-    elif now - radio.heard > RADIO_SILENCE:
+    elif now - radio.heard > SILENCE:
         yield Look("bad", silence(now - radio.heard), title, "/receivers", to_do)
 
 

@@ -6,11 +6,13 @@ from dataclasses import dataclass
 
 from ..asking import Database
 from ..config import Config
-from .shared import GRACE
+from .shared import GRACE, counted
 
 # the last lines, over all receivers, of which each receiver's are counted, and as many of one receiver whose frames are looked at
 LAST_LINES, LAST_FRAMES = 10_000, 300
-HOUR = 3600.0
+HOUR, DAY = 3600.0, 86_400.0
+# without a line for so long a receiver is called silent
+SILENCE = HOUR
 LAST_OF = "select made from line where receiver = ? and made <= ? order by number desc limit 1"
 # receivers that heard something once, also where none of their lines is kept any more
 ONCE_HEARD = "select receiver from source union select receiver from meter union select receiver from stranger"
@@ -28,6 +30,13 @@ class Radio:
     per_minute: float
     framed: float | None
     is_configured: bool
+
+
+def silence(seconds: float) -> str:
+    """For how long nothing was heard."""
+    if seconds >= 2 * DAY:
+        return f"silent for {counted(int(seconds // DAY), 'day', 'days')}"
+    return f"silent for {counted(int(seconds // HOUR), 'hour', 'hours')}"
 
 
 def receivers(config: Config, database: Database, now: float, with_frames: bool = False) -> list[Radio]:

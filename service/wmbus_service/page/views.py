@@ -3,7 +3,7 @@ from __future__ import annotations
 
 import csv
 import io
-from collections.abc import Iterator
+from collections.abc import Callable, Iterator
 from dataclasses import asdict, replace
 from typing import Any
 
@@ -11,6 +11,7 @@ from ..asking import Database
 from ..config import Config
 from ..exporting import HEAD, name_cell
 from . import looks, periods, radios
+from .finding import number_of, wanted
 from .reading import (
     Meter, Value, all_meters, commands_of, count_commands, exact, last_values, one_meter, refusals_of, rows_of, strangers,
 )
@@ -52,6 +53,24 @@ def overview(config: Config, database: Database, now: float) -> dict[str, Any]:
             "meters": [it for it in rows if it["retired"] is None], "retired": [it for it in rows if it["retired"] is not None],
             "totals": {"lines": totals.get("lines", 0), "stored": totals.get("stored", 0), "commands": waiting,
                        "read": sum(it.heard is not None and it.retired is None for it in meters)}}
+
+
+# how the list of meters may be sorted, but for the order in which they were added
+ORDERS: dict[str, Callable[[dict[str, Any]], Any]] = {
+    "name": lambda it: it["title"].casefold(), "number": lambda it: number_of(it["address"]), "silence": lambda it: it["heard"] or 0.0,
+}
+
+
+def meters_page(config: Config, database: Database, now: float, asked: dict[str, str], is_retired: bool = False) -> dict[str, Any]:
+    """The meters that somebody looks for, in some order; where nobody looks for one those in service, or those out of it."""
+    told = overview(config, database, now)
+    found = told["retired" if is_retired else "meters"]
+    if asked["q"]:
+        looked_for = wanted(asked["q"])
+        found = [it for it in told["meters"] + told["retired"] if looked_for.finds(it["address"], it["name"], it["retired"] is None)]
+    if order := ORDERS.get(asked["order"]):
+        found = sorted(found, key=order)
+    return {"now": now, "asked": asked, "orders": list(ORDERS), "meters": found}
 
 
 def meter_page(database: Database, address: str, span: str, now: float, retired: float | None = None) -> dict[str, Any] | None:

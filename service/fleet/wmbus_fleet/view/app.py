@@ -3,8 +3,8 @@ from __future__ import annotations
 
 from typing import Any
 
-from flask import Blueprint, Flask, Response, abort, jsonify, render_template, request
-from wmbus_service.page.app import MOST_SHOWN, Worded, clock, create_page, database
+from flask import Blueprint, Flask, Response, abort, jsonify, render_template
+from wmbus_service.page.app import MOST_SHOWN, Worded, clock, create_page, database, text_asked
 from wmbus_service.page.app import _meter as meter_told
 
 from ..config import Config
@@ -12,7 +12,6 @@ from . import looking
 from .door import FleetDoor
 
 fleet = Blueprint("fleet", __name__, template_folder="templates")
-LONGEST = 80
 
 
 def create_app(config: Config, token: str | None = None, is_elsewhere: bool = False) -> Flask:
@@ -59,7 +58,7 @@ def api_meter(address: str) -> Response:
 
 
 def _meters() -> dict[str, Any]:
-    asked = {name: _text(name) for name in ("q", "area", "gateway", "state", "after")}
+    asked = {name: text_asked(name) for name in ("q", "area", "gateway", "state", "after")}
     if asked["state"] not in looking.STATES:
         raise Worded(f"A state is one of {', '.join(it for it in looking.STATES if it)}.")
     return looking.meters(database(), clock(), asked)
@@ -78,7 +77,7 @@ def api_gateways() -> Response:
 
 
 def _gateways() -> dict[str, Any]:
-    return looking.gateways(database(), clock(), _text("area") or None, bool(_text("silent")), _text("after"))
+    return looking.gateways(database(), clock(), text_asked("area") or None, bool(text_asked("silent")), text_asked("after"))
 
 
 @fleet.get("/areas/<name>")
@@ -96,8 +95,3 @@ def api_area(name: str) -> Response:
 def _area(name: str) -> dict[str, Any]:
     found = looking.area_page(database(), clock(), name.replace("\0", ""))
     return found if found is not None else abort(404)
-
-
-def _text(name: str) -> str:
-    """A word of the address, of which PostgreSQL takes each but the one sign that it has no texts with."""
-    return request.args.get(name, "").strip().replace("\0", "")[:LONGEST]

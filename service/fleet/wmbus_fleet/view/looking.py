@@ -1,19 +1,20 @@
 """What the fleet's own pages show: the overview, areas, gateways, and the meters that somebody looks for."""
 from __future__ import annotations
 
-import re
 from collections.abc import Iterator
 from dataclasses import asdict
 from typing import Any
 
 from wmbus_service.asking import Database
-from wmbus_service.page.looks import METER_SILENCE, OFTEN, RECENT, Look, explained, silence
+from wmbus_service.page.finding import pattern_of, wanted
+from wmbus_service.page.looks import METER_SILENCE, OFTEN, RECENT, Look, explained
+from wmbus_service.page.radios import silence
 from wmbus_service.page.reading import meters_of, rows_of, strangers
 from wmbus_service.page.shared import counted, times
 from wmbus_service.page.views import meter_data
 
 from ..retiring import IS_HEARD, heard_words
-from ..status import IS_REPEAT, PARTS, SILENT, UNITS
+from ..status import IS_REPEAT, IS_SET_BACK, PARTS, SILENT, UNITS
 
 # the state of meters that are out of service and were heard since
 RETIRED_HEARD = "retired-heard"
@@ -24,12 +25,11 @@ DAY = 86_400.0
 LAG = 300
 # (of some locales, as C, PostgreSQL's own lower() knows the letters of ASCII alone; for these it takes a third of the time)
 LETTERS = {True: 'collate "C"', False: 'collate "und-x-icu"'}
-# a label's number as it is printed, also in pieces, behind its maker, and as the page itself tells it, with version and device type
-LABEL = re.compile("(?:[A-Za-z]{3} ?)?((?:[0-9][ .-]?){8})(?:[0-9a-fA-F]{2} [0-9a-fA-F]{2})?")
 # (each goes once over the meters, of which there may be a million)
 METERS = f"""
 select count(*) as meters, count(retired) as retired, count(heard) filter (where retired is null) as read,
-    count(*) filter (where heard < ? and retired is null) as silent_meters,
+    count(*) filter (where heard < ? and retired is null and not ({IS_SET_BACK})) as silent_meters,
+    count(*) filter (where {IS_SET_BACK}) as set_back,
     count(*) filter (where heard is null and retired is null) as unheard_meters, count(*) filter (where {IS_HEARD}) as retired_heard
 from meter m"""
 COUNTS = {
@@ -39,7 +39,7 @@ COUNTS = {
 }
 # (what another gateway, or a repeater, brought once more is no trouble of an area's)
 AREAS = f"""
-with heard as (select g.area, count(*) as meters, count(*) filter (where m.heard < ?) as silent_meters
+with heard as (select g.area, count(*) as meters, count(*) filter (where m.heard < ? and not ({IS_SET_BACK})) as silent_meters
         from meter m join gateway g on g.name = m.gateway where m.retired is null group by g.area),
     refused as (select g.area, sum(r.times) as refused
         from refusal r join meter m on m.address = r.address join gateway g on g.name = m.gateway where not {IS_REPEAT} group by g.area),
@@ -110,6 +110,9 @@ def _of_parts(running: dict[str, int], told: dict[str, Any], _now: float) -> Ite
     if silent:
         yield Look("look", "silent", counted(silent, "meter", "meters"), "/meters?state=stopped",
                    "Each had a reading, and none for two days.")
+    if told["set_back"]:
+        yield Look("bad", "counter set back", counted(told["set_back"], "meter", "meters"), "/meters?state=set-back",
+                   "Each is heard, and nothing of it is stored, as its counter is below the last stored one. Its page says what to do.")
     if told["retired_heard"]:
         yield Look("look", "out of service", heard_words(told["retired_heard"]), f"/meters?state={RETIRED_HEARD}", PUT_BACK)
 
@@ -177,11 +180,12 @@ def area_page(database: Database, now: float, area: str) -> dict[str, Any] | Non
 
 # (of meters in service, but for the last two)
 STATES = {
-    "": "", "silent": " and (m.heard is null or m.heard < {moment})", "stopped": " and m.heard < {moment}", "unread": " and m.heard is null",
+    "": "", "silent": f" and (m.heard is null or m.heard < {{moment}} and not ({IS_SET_BACK}))",
+    "stopped": f" and m.heard < {{moment}} and not ({IS_SET_BACK})", "unread": " and m.heard is null",
     "read": " and m.heard >= {moment}",
     "refused": " and exists (select 1 from refusal r where r.address = m.address and r.last_made > coalesce(m.heard, 0)"
                f" and not {IS_REPEAT})",
-    "retired": " and m.retired is not null", RETIRED_HEARD: f" and {IS_HEARD}",
+    "set-back": f" and {IS_SET_BACK}", "retired": " and m.retired is not null", RETIRED_HEARD: f" and {IS_HEARD}",
 }
 
 
@@ -213,20 +217,18 @@ def meters(database: Database, now: float, asked: dict[str, str]) -> dict[str, A
 
 
 def _looked_for(text: str, is_in_service: bool) -> tuple[str, list[Any]]:
-    """How a meter is looked for: by a part of its name, the first digits of its address, or the number on its label. By its name one that
-    is out of service is found among such alone: the one in its place may have the same name."""
-    letters = LETTERS[text.isascii()]
+    """How a meter is looked for: by a part of its name, the first digits of its address, or the last ones of the number on its label. By
+    its name one that is out of service is found among such alone: the one in its place may have the same name."""
+    letters, told = LETTERS[text.isascii()], wanted(text)
     conditions: list[str] = [f"position(lower(?::text {letters}) in lower(m.name {letters})) > 0"
                              f"{' and m.retired is null' if is_in_service else ''}"]
     values: list[Any] = [text]
-    if re.fullmatch("[0-9a-fA-F]{4,16}", text):
+    if told.address:
         conditions.append("left(m.address, ?) = ?")
-        values += [len(text), text.lower()]
-    if label := LABEL.fullmatch(text):
-        # (it stands there with its low byte first)
-        number = re.sub("[^0-9]", "", label[1])
-        conditions.append("substr(m.address, 5, 8) = ?")
-        values.append("".join(number[place:place + 2] for place in (6, 4, 2, 0)))
+        values += [len(told.address), told.address]
+    if told.number:
+        conditions.append("m.address like ?")
+        values.append(pattern_of(told.number))
     return f"({' or '.join(conditions)})", values
 
 
