@@ -25,13 +25,15 @@ DAY = 86_400.0
 LAG = 300
 # (of some locales, as C, PostgreSQL's own lower() knows the letters of ASCII alone; for these it takes a third of the time)
 LETTERS = {True: 'collate "C"', False: 'collate "und-x-icu"'}
-# (each goes once over the meters, of which there may be a million)
+# (as a list by itself these are found by a join, and not by looking at the refusals of each of a million meters)
+BACK = f"back as (select m.address from meter m where {IS_SET_BACK})"
+# (each goes once over the meters)
 METERS = f"""
+with {BACK}
 select count(*) as meters, count(retired) as retired, count(heard) filter (where retired is null) as read,
-    count(*) filter (where heard < ? and retired is null and not ({IS_SET_BACK})) as silent_meters,
-    count(*) filter (where {IS_SET_BACK}) as set_back,
+    count(*) filter (where heard < ? and retired is null and back.address is null) as silent_meters, count(back.address) as set_back,
     count(*) filter (where heard is null and retired is null) as unheard_meters, count(*) filter (where {IS_HEARD}) as retired_heard
-from meter m"""
+from meter m left join back on back.address = m.address"""
 COUNTS = {
     "inbox": "select count(*) from inbox",
     "commands": "select count(*) from command where state in ('waiting', 'queued', 'sent')",
@@ -39,8 +41,9 @@ COUNTS = {
 }
 # (what another gateway, or a repeater, brought once more is no trouble of an area's)
 AREAS = f"""
-with heard as (select g.area, count(*) as meters, count(*) filter (where m.heard < ? and not ({IS_SET_BACK})) as silent_meters
-        from meter m join gateway g on g.name = m.gateway where m.retired is null group by g.area),
+with {BACK},
+    heard as (select g.area, count(*) as meters, count(*) filter (where m.heard < ? and back.address is null) as silent_meters
+        from meter m join gateway g on g.name = m.gateway left join back on back.address = m.address where m.retired is null group by g.area),
     refused as (select g.area, sum(r.times) as refused
         from refusal r join meter m on m.address = r.address join gateway g on g.name = m.gateway where not {IS_REPEAT} group by g.area),
     sending as (select area, count(*) as gateways, count(*) filter (where seen is null or seen < ?) as silent_gateways
