@@ -8,7 +8,7 @@ import os
 import re
 from collections import namedtuple
 
-from libraries import TOP, below, known_crates, toolchain
+from libraries import TOP, below, known_crates, logic_of, toolchain
 
 PARTS = ("src", "specs", "proofs")
 
@@ -172,9 +172,9 @@ def sum_of_statements(crate):
 
 
 def sum_of_trial(crate):
-    """A sum of all that says whether a crate's bodies are wrong: its sources and definitions, the bodies, and the statements of the crates
-    below. Proofs are none of it: where a body breaks a contract no proof can help it."""
-    folder, total = f"{TOP}/crates/{crate}", hashlib.sha256(f"{toolchain()} {known_crates()[crate]}\n".encode())
+    """A sum of all that says whether a crate's bodies are wrong: its sources and definitions, the bodies, the statements of the crates below,
+    and the logic. Proofs are none of it, nor what a toolchain is called: where a body breaks a contract no proof can help it."""
+    folder, total = f"{TOP}/crates/{crate}", hashlib.sha256(f"{logic_of(toolchain())} {known_crates()[crate]}\n".encode())
     for part in ("src", "specs", "must-fail"):
         for path in files_below(f"{folder}/{part}"):
             total.update(f"{os.path.relpath(path, folder)}\n{read(path)}".encode())

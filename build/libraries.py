@@ -63,6 +63,11 @@ def toolchain():
     return " ".join(said("rt", "version").split())
 
 
+def logic_of(version):
+    """What a toolchain of this version proves by: those of one logic take the same proofs, and differ in their commands."""
+    return version.partition(" logic ")[2] or version
+
+
 def stamp(crate):
     """What tells whether a library that stands is of these sources."""
     return f"{sources(crate)} {toolchain()}"
