@@ -1,38 +1,41 @@
 //! A buffer that holds a message.
-ghost use Rattle.std.specs.Prelude.{◌≡◌, ◌+◌, ◌≤◌, ◌++◌, ◌↔◌, [], length, IsTrue};
+ghost use Rattle.std.specs.Prelude.{◌≡◌, ◌+◌, ◌≤◌, ◌++◌, ◌↔◌, [], length, IfOk, IsTrue};
 ghost use Rattle.std.specs.Borrow.{sem};
 
-use arrayvec::ArrayVec;
+use std::alloc::{AllocError, Global};
 use std::marker::Model;
 
 /// How many bytes a buffer has room for. The longest message, of 16 fragments with 242 bytes each, has 3,872.
 pub const SCRATCH_MAX: usize = 4096;
 
-/// A buffer of at most 4,096 bytes, in which a message is put together and decrypted. What stands in the array behind
-/// its bytes counts nowhere.
+/// A buffer of at most 4,096 bytes, in which a message is put together and decrypted. Room for all of them is taken when
+/// it is made, so that no other call takes memory.
 #[derive(Drop)]
 pub struct Scratch {
-    bytes: ArrayVec<u8, SCRATCH_MAX>,
+    bytes: Vec<u8>,
 }
 
 impl Model for Scratch {
-    ghost use Rattle.std.specs.Prelude.{ℕ, List};
+    ghost use Rattle.std.specs.Prelude.{◌≤◌, ℕ, List, length, vec_capacity};
+    ghost use Rattle.afl_layer.specs.declared.scratch.TheConstants.{SCRATCH_MAX};
 
     ghost Value = { List ℕ };
 
     ghost view = { λ s. s.bytes.items };
+
+    ghost invariant = { λ s. (length s.bytes.items ≤ SCRATCH_MAX) × (SCRATCH_MAX ≤ vec_capacity s.bytes) };
 }
 
 impl Scratch {
     ghost use Rattle.afl_layer.specs.Scratch.{LendsBytes};
 
     /// An empty buffer.
-    pub fn new() -> Scratch
-        ensures { result ≡ [] }
+    pub fn new(alloc: Global) -> Result<Scratch, AllocError>
+        ensures { IfOk result (λ s. s ≡ []) }
     {
-        Scratch {
-            bytes: ArrayVec::new(),
-        }
+        Ok(Scratch {
+            bytes: Vec::with_capacity(alloc, SCRATCH_MAX)?,
+        })
     }
 
     /// Takes all bytes out.
@@ -47,8 +50,7 @@ impl Scratch {
         requires { length self.old + length bytes.now ≤ 4096 }
         ensures { self.new ≡ self.old ++ bytes.now }
     {
-        let put = self.bytes.try_extend_from_slice(bytes);
-        prove!(put.is_ok());
+        self.bytes.extend_from_slice(bytes).unwrap();
     }
 
     /// How many bytes there are.
