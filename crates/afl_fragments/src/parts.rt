@@ -1,5 +1,5 @@
 //! The fragments that are held.
-ghost use Rattle.std.specs.Prelude.{◌≡◌, ◌≤◌, ◌<◌, ◌+◌, ◌↔◌, List, [], ◌∷◌, length, Some, IfNone, OnSome, IfSome, slice_get};
+ghost use Rattle.std.specs.Prelude.{◌≡◌, ◌≤◌, ◌<◌, ◌+◌, ◌↔◌, List, [], ◌∷◌, length, Some, IfNone, OnSome, IfSome, IfOk, slice_get};
 ghost use Rattle.std.specs.Option.{option_copied};
 ghost use Rattle.afl_fragments.specs.Held.{Told, Piece, Tick, Clear, StandsFor, Message, message_with, assembled, held_bytes};
 ghost use Rattle.afl_fragments.specs.Laws.{IsMessageOf};
@@ -9,7 +9,7 @@ use crate::places::{
     HeldPart, PARTS_MAX, PLACES, assemble, count_bytes, grow_older, keep_fresh, put,
 };
 use afl_layer::{Auth, Scratch};
-use arrayvec::ArrayVec;
+use std::alloc::{AllocError, Global};
 use std::array;
 use std::marker::Model;
 
@@ -23,34 +23,36 @@ pub enum Held {
 }
 
 /// The fragments of a meter's message that are held, of each number the latest: a fragment is dropped at its second tick.
-/// They stand in sixteen fixed places, one for each number, so that no call takes memory.
+/// They stand in sixteen fixed places, one for each number, and room for their order is taken at first, so that no other
+/// call takes memory.
 #[derive(Drop)]
 pub struct Parts {
     places: [HeldPart; PLACES],
-    order: ArrayVec<u8, PLACES>,
+    order: Vec<u8>,
 }
 
 impl Model for Parts {
-    ghost use Rattle.std.specs.Prelude.{List};
+    ghost use Rattle.std.specs.Prelude.{◌≤◌, List, vec_capacity};
     ghost use Rattle.afl_fragments.specs.declared.places.HeldPart.{HeldPart};
+    ghost use Rattle.afl_fragments.specs.declared.places.TheConstants.{PLACES};
     ghost use Rattle.afl_fragments.specs.Places.{held_in, AreOrdered};
 
     ghost Value = { List HeldPart };
 
     ghost view = { λ p. held_in p.places p.order.items };
 
-    ghost invariant = { λ p. AreOrdered p.places p.order.items };
+    ghost invariant = { λ p. AreOrdered p.places p.order.items × (PLACES ≤ vec_capacity p.order) };
 }
 
 impl Parts {
     /// No fragment is held.
-    pub fn new() -> Parts
-        ensures { StandsFor result [] }
+    pub fn new(alloc: Global) -> Result<Parts, AllocError>
+        ensures { IfOk result (λ parts. StandsFor parts []) }
     {
-        Parts {
+        Ok(Parts {
             places: array::from_fn(|_| HeldPart::unused()),
-            order: ArrayVec::new(),
-        }
+            order: Vec::with_capacity(alloc, PLACES)?,
+        })
     }
 
     /// Holds a fragment, unless its number is above 16.
@@ -120,6 +122,7 @@ impl Parts {
     }
 
     /// How many bytes the fragments have together.
+    #[tactic(auto, using(crate::proofs::PlaceLaws::few_places))]
     pub fn held_bytes(&self) -> usize
         ensures { result ≡ held_bytes self.now }
     {

@@ -1,13 +1,12 @@
 //! Places for fragments: one for each number, and which of them are in use.
 ghost use Rattle.std.specs.Prelude.{◌≡◌, ◌≤◌, ◌<◌, ◌+◌, ◌*◌, ◌++◌, ◌∷◌, length, filter, map, not};
-ghost use Rattle.std.specs.Prelude.{eqb, find, take, IfSome, IfNone, Some, None, if◌then◌else◌};
+ghost use Rattle.std.specs.Prelude.{eqb, find, take, IfSome, IfNone, Some, None, if◌then◌else◌, vec_capacity};
 ghost use Rattle.std.specs.List.{flat_map};
 ghost use Rattle.afl_fragments.specs.Held.{is_end, front, auth_of, message_with, assembled, held_bytes};
 ghost use Rattle.afl_fragments.specs.Places.{at_place, held_in, held_with, is_in, is_led, is_fresh, older, parts_in, IsPlace, AreOrdered};
 
 use crate::part::{PART_MAX, Part};
 use afl_layer::{Afl, Auth, Scratch};
-use arrayvec::ArrayVec;
 
 /// The most fragments of a message.
 pub const PARTS_MAX: u8 = 16;
@@ -60,22 +59,34 @@ impl HeldPart {
 }
 
 // Takes a place out of use.
-fn leave_out(order: &mut ArrayVec<u8, PLACES>, place: u8)
-    ensures { order.new.items ≡ filter (λ i. not (eqb i place)) order.old.items }
+fn leave_out(order: &mut Vec<u8>, place: u8)
+    ensures left { order.new.items ≡ filter (λ i. not (eqb i place)) order.old.items }
+    ensures room { vec_capacity order.new ≡ vec_capacity order.old }
 {
     order.retain(|i| *i != place);
 }
 
+// Puts a place in front of those in use.
+fn put_first(order: &mut Vec<u8>, place: u8)
+    requires room { length order.old.items < vec_capacity order.old }
+    ensures first { order.new.items ≡ place ∷ order.old.items }
+    ensures room { vec_capacity order.old ≤ vec_capacity order.new }
+{
+    order.insert(0, place).unwrap();
+}
+
 // Holds a fragment in the place of its number.
-pub(crate) fn put(places: &mut [HeldPart; PLACES], order: &mut ArrayVec<u8, PLACES>, part: Part)
+pub(crate) fn put(places: &mut [HeldPart; PLACES], order: &mut Vec<u8>, part: Part)
     requires counted { part.afl.fid ≤ PARTS_MAX }
     requires ordered { AreOrdered places.old order.old.items }
+    requires room { PLACES ≤ vec_capacity order.old }
     ensures ordered { AreOrdered places.new order.new.items }
     ensures held { held_in places.new order.new.items ≡ held_with part (held_in places.old order.old.items) }
+    ensures room { vec_capacity order.old ≤ vec_capacity order.new }
 {
     let place = part.afl().fid - 1;
     leave_out(order, place);
-    order.insert(0, place);
+    put_first(order, place);
     places[place as usize] = HeldPart { ticks: 0, part };
 }
 
@@ -89,8 +100,9 @@ fn is_fresh_at(places: &[HeldPart; PLACES], place: u8) -> bool
 }
 
 // Takes out of use the places whose fragments have seen a tick.
-pub(crate) fn keep_fresh(order: &mut ArrayVec<u8, PLACES>, places: &[HeldPart; PLACES])
-    ensures { order.new.items ≡ filter (λ i. is_fresh (at_place places.now i)) order.old.items }
+pub(crate) fn keep_fresh(order: &mut Vec<u8>, places: &[HeldPart; PLACES])
+    ensures left { order.new.items ≡ filter (λ i. is_fresh (at_place places.now i)) order.old.items }
+    ensures room { vec_capacity order.new ≡ vec_capacity order.old }
 {
     order.retain(|i| is_fresh_at(places, *i));
 }
