@@ -35,7 +35,7 @@ pub(crate) fn take_place(
         return Ok(());
     };
     if layers.is_fragment() && fragments.is_none() {
-        *fragments = Some(Box::new(alloc, Parts::new())?);
+        *fragments = Some(Box::new(alloc, Parts::new(alloc)?)?);
     }
     Ok(())
 }
@@ -62,7 +62,7 @@ pub(crate) fn hold(alloc: Global, fragments: &mut Fragments, part: Part) -> Resu
             parts.hold(part);
         }
         None => {
-            let mut parts = Box::new(alloc, Parts::new())?;
+            let mut parts = Box::new(alloc, Parts::new(alloc)?)?;
             parts.hold(part);
             *fragments = Some(parts);
         }

@@ -35,7 +35,7 @@ pub(crate) struct Standing {
     judge: Judge,
     commands: Commands,
     // The buffer in which messages are opened, from the first one on.
-    message: Option<Box<Scratch>>,
+    message: Option<Scratch>,
     // Room for the next downlink, from the first message on.
     room: Vec<Downlink>,
     parts: Fragments,
@@ -80,10 +80,10 @@ fn room_needed(parts: &Fragments, telegram: &Telegram, layers: &Result<Layers, R
 }
 
 // The buffer that was kept, or a new one.
-fn take_buffer(alloc: Global, kept: &mut Option<Box<Scratch>>) -> Result<Box<Scratch>, Memory> {
+fn take_buffer(alloc: Global, kept: &mut Option<Scratch>) -> Result<Scratch, Memory> {
     match kept.take() {
         Some(buffer) => Ok(buffer),
-        None => Ok(Box::new(alloc, Scratch::new())?),
+        None => Ok(Scratch::new(alloc)?),
     }
 }
 
@@ -93,7 +93,7 @@ struct Rooms {
     // Room for the payload of what is stored.
     payload: Room,
     // The buffer in which messages are opened.
-    message: Box<Scratch>,
+    message: Scratch,
     // Room for a downlink.
     downlink: Vec<Downlink>,
 }
@@ -102,7 +102,7 @@ struct Rooms {
 fn take_rooms(
     alloc: Global,
     parts: &mut Fragments,
-    message: &mut Option<Box<Scratch>>,
+    message: &mut Option<Scratch>,
     downlink: &mut Vec<Downlink>,
     telegram: &Telegram,
     layers: &Result<Layers, Reason>,

@@ -1,4 +1,4 @@
-use Rattle.std.proofs.Common.{◌≡◌, ℕ, Bool, List, Option, Result, sym, ap, ◌∙◌, subst, option_to_list}
+use Rattle.std.proofs.Common.{◌≡◌, Bool, Option, Result, sym, ap, ◌∙◌, subst, option_to_list}
 use Rattle.std.specs.Prelude.{slice_index}
 use Rattle.meter_address.specs.Commission.{Commissioned}
 use Rattle.afl_fragments.specs.Held.{StandsFor}
@@ -41,7 +41,6 @@ returns-clause-reading c format told =
     let Reads : Kept → Type 0 = λ k. StandsFor k.parts told
     → option_to_list c.reading_from-reading.result ≡ reading_at c.args.at (stored_in (verdict k.commission (standing_for k told) t)) in
     let reads : Reads k = λ stands. c.reading_from-reading.ensures
-    ∙ ap (λ (bytes : List ℕ). reading_at c.args.at (stored_in (verdict_as bytes c.hear-judged.result.verdict))) c.deref.ensures
     ∙ ap (λ (v : Result (Option Found) Reason). reading_at c.args.at (stored_in v))
     (c.hear-judged.ensures.verdict told (c.take_rooms.ensures.held ∙ stands)) in
     subst Reads c.self.view_is reads
