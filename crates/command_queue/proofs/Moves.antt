@@ -1,19 +1,25 @@
 -- What putting and taking a command keep of a queue, and which command is taken.
 use Rattle.std.proofs.Common.{◌≡◌, ◌≢◌, ℕ, zero, suc, ◌+◌, ◌<◌, ◌≤◌, true, not, List, [], ◌∷◌, ◌++◌, length}
-use Rattle.std.proofs.Common.{get_or, filter, Some, None, find, All, AllPairs, refl, sym, ap, subst, ◌∙◌, arith, length-append, Ok, Err}
+use Rattle.std.proofs.Common.{get_or, take, drop, set, filter, Some, None, find, All, AllPairs, refl, sym, ap, subst, ◌∙◌, arith, Ok, Err}
 use Rattle.std.specs.Prelude.{◌-◌, slice_get}
 use Rattle.std.specs.List.{HoldsAt, remove}
 use Rattle.std.proofs.lemmas.Bool.{cond_both, eq-eqb, ne_eqb}
 use Rattle.std.proofs.lemmas.Bool.Decides.{nat_tests}
+use Rattle.std.proofs.lemmas.List.{length-append, length-set, length-take-le, take_more_set, take-append-le, take-set-le, take_at}
+use Rattle.std.proofs.lemmas.List.Edits.{length-remove}
 use Rattle.std.proofs.lemmas.List.Elements.{All-head, All-tail}
 use Rattle.std.proofs.lemmas.List.Filters.{length-filter_both}
 use Rattle.command_queue.specs.declared.command.Command.{Command}
 use Rattle.command_queue.specs.Pending.{Pending, IdsRise, AreUntried, OnlyOldestTried, IsSound, has_id, no_such, take_answer}
-use Rattle.command_queue.specs.Pending.{without_command, newest_id, most_tries, may_follow}
+use Rattle.command_queue.specs.Pending.{without_command, newest_id, most_tries, may_follow, with_follower}
 
 -- the commands with another id
 abbrev pub without : ℕ → List Command → List Command
 without id cs = filter (λ c. not (has_id id c)) cs
+
+-- what a queue's places hold: what stands behind the count counts nowhere
+abbrev pub waiting : ℕ → ℕ → List Command → Pending
+waiting ids count places = record { ids = ids; commands = take count places }
 
 -- ---- a command more
 
@@ -49,11 +55,44 @@ pub sound_put : (q r : Pending) (c : Command) → IsSound q → length q.command
 sound_put q r c s room id tries commands ids =
     sound_push q r c s room (omega (arith, newest_given 0 q.commands q.ids s.rising)) (omega arith) (rw tries (omega arith)) commands
 
+-- where one more waits there is a place for it
+pub free_place : (places : List Command) (count : ℕ) → length places ≡ 8 → count ≤ length places
+    → length (take count places) < 8 → count < 8
+free_place places count eight few room = omega (arith, length-take-le count places few)
+
 -- one that waited before
-pub sound_follower : (q : Pending) (c : Command) → IsSound q → may_follow q c ≡ true → IsSound (record q { commands = q.commands ++ c ∷ [] })
+pub sound_follower : (q : Pending) (c : Command) → IsSound q → may_follow q c ≡ true
+    → IsSound (record q { commands = q.commands ++ c ∷ [] })
 unfolding may_follow
 sound_follower q c s h =
     sound_push q _ c s (grind (arith, nat_tests)) (grind (arith, nat_tests)) (grind (arith, nat_tests)) (grind (arith, nat_tests)) refl
+
+follower_room : (q : Pending) (c : Command) → may_follow q c ≡ true → length q.commands < 8
+unfolding may_follow
+follower_room q c h = grind (arith, nat_tests)
+
+-- it finds a place, and is the last of those that wait
+pub record IsFollowed (ids count : ℕ) (places : List Command) (now : Pending) (c : Command) : Type 0 where
+  pub free : count < 8
+  pub fits : count + 1 ≤ length (set places count c)
+  pub after : waiting ids (count + 1) (set places count c) ≡ with_follower now c
+  pub sound : IsSound (waiting ids (count + 1) (set places count c))
+
+pub followed : (ids count : ℕ) (places : List Command) (now : Pending) (c : Command) → length places ≡ 8 → count ≤ length places
+    → IsSound (waiting ids count places) → waiting ids count places ≡ now → may_follow now c ≡ true → IsFollowed ids count places now c
+unfolding with_follower
+followed ids count places now c eight few s view follows =
+    let q = waiting ids count places in
+    let may : may_follow q c ≡ true = ap (λ (p : Pending). may_follow p c) view ∙ follows in
+    let free = free_place places count eight few (follower_room q c may) in
+    let last : waiting ids (count + 1) (set places count c) ≡ record q { commands = q.commands ++ c ∷ [] } =
+    ap (λ (cs : List Command). record q { commands = cs }) (take_more_set places count c (omega (arith, free, eight))) in
+    record {
+      free = free;
+      fits = omega (arith, free, eight, length-set places count c);
+      after = last ∙ ap (λ (p : Pending). record p { commands = p.commands ++ c ∷ [] }) view ∙ rw follows refl;
+      sound = subst IsSound (sym last) (sound_follower q c s may);
+    }
 
 -- ---- a command less
 
@@ -167,6 +206,22 @@ only_one n (c ∷ cs) last (suc i) d h lt =
     let other = ne_eqb c.id (get_or cs i d).id (λ e. omega arith) in
     (rw other rest.0, rw other (ap (λ (xs : List Command). c ∷ xs) rest.1))
 
+-- the taken command stands behind the others, and its place is unused then
+pub others_left : (xs zs : List Command) (i : ℕ) (c unused : Command) → i < length xs → zs ≡ remove xs i ++ c ∷ []
+    → take (length xs - 1) (set zs (length zs - 1) unused) ≡ remove xs i
+others_left xs zs i c unused lt moved =
+    let long : length (remove xs i) ≡ length xs - 1 = omega (arith, length-remove xs i lt) in
+    take-set-le (length xs - 1) zs (length zs - 1) unused (omega (arith, ap length moved, length-append (remove xs i) (c ∷ []), long))
+    ∙ ap (take (length xs - 1)) moved ∙ take_at (remove xs i) (c ∷ []) (length xs - 1) long
+
+-- the places of those that wait became `new`, without the i-th, and one fewer waits
+left_waiting : (places new : List Command) (count i : ℕ) → count ≤ length places
+    → length new ≡ length (take count places) → take (length (take count places) - 1) new ≡ remove (take count places) i
+    → take (count - 1) (new ++ drop count places) ≡ remove (take count places) i
+left_waiting places new count i fits same others =
+    let long = length-take-le count places fits in
+    take-append-le (count - 1) new (drop count places) (omega (arith, long)) ∙ ap (λ n. take (n - 1) new) (sym long) ∙ others
+
 -- the command with this id is answered, and the others are left
 pub record IsTaken (id : ℕ) (q : Pending) (c : Command) (left : Pending) : Type 0 where
   pub answer : Ok c ≡ take_answer id q
@@ -195,3 +250,17 @@ pub taken : (id : ℕ) (q now : Pending) (i : ℕ) (c : Command) (left : List Co
 taken id q now i c left s is others view =
     subst (λ (p : Pending). i < length p.commands → HoldsAt (λ c. c.id ≡ id) p.commands i → IsTaken id p c (record q { commands = left }))
     view (taken_here id q i c left s is others)
+
+pub left_fit : (places new : List Command) (count : ℕ) → count ≤ length places → length new ≡ length (take count places)
+    → count - 1 ≤ length (new ++ drop count places)
+left_fit places new count fits same = omega (arith, length-take-le count places fits, length-append new (drop count places), same)
+
+-- the same in a queue's places, of which those that waited became `new`
+pub taken_waiting : (id ids count : ℕ) (places new : List Command) (now : Pending) (i : ℕ) (c : Command) → count ≤ length places
+    → IsSound (waiting ids count places) → waiting ids count places ≡ now → i < length now.commands
+    → HoldsAt (λ d. d.id ≡ id) now.commands i
+    → HoldsAt (λ d. d ≡ c) (take count places) i → length new ≡ length (take count places)
+    → take (length (take count places) - 1) new ≡ remove (take count places) i
+    → IsTaken id now c (waiting ids (count - 1) (new ++ drop count places))
+taken_waiting id ids count places new now i c fits s view lt at value same others =
+    taken id (waiting ids count places) now i c _ s (sym (value c)) (left_waiting places new count i fits same others) view lt at

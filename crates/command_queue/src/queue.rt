@@ -1,45 +1,34 @@
 //! The queue of the commands that wait.
-ghost use Rattle.std.specs.Prelude.{◌≡◌};
+ghost use Rattle.std.specs.Prelude.{◌≡◌, ◌<◌, ◌-◌, length, take};
+ghost use Rattle.std.specs.List.{HoldsAt, remove};
 ghost use Rattle.command_queue.specs.Pending.{HasTryLeft, one_try_more};
 
 use crate::command::{Command, NoSuch, QueueFault, TRIES_MAX};
-use arrayvec::ArrayVec;
 use meter_address::Payload;
-use std::default::MadeWith;
 use std::marker::Model;
+use std::{array, mem};
 
 /// How many commands a queue has at most.
 pub const QUEUE_MAX: usize = 8;
 
-// What stands in a place that no command has.
-#[derive(Clone, Copy)]
-struct Blank;
-
-impl MadeWith<Blank> for Command {
-    fn made_with(_: Blank) -> Self {
-        Command {
-            id: 0,
-            tries: 0,
-            payload: Payload::new(&[0]).unwrap(),
-        }
-    }
-}
-
-/// The commands that wait to be sent to a meter, the oldest one first, in eight fixed places.
+/// The commands that wait to be sent to a meter, the oldest one first, in eight fixed places. What stands
+/// behind them counts nowhere.
 #[derive(Drop)]
 pub struct Queue {
-    commands: ArrayVec<Command, QUEUE_MAX, Blank>,
+    commands: [Command; QUEUE_MAX],
+    count: usize,
     ids: u32,
 }
 
 impl Model for Queue {
+    ghost use Rattle.std.specs.Prelude.{◌≤◌, length, take};
     ghost use Rattle.command_queue.specs.Pending.{Pending, IsSound};
 
     ghost Value = { Pending };
 
-    ghost view = { λ q. record { ids = q.ids; commands = q.commands.items } };
+    ghost view = { λ q. record { ids = q.ids; commands = take q.count q.commands } };
 
-    ghost invariant = { λ q. IsSound (record { ids = q.ids; commands = q.commands.items }) };
+    ghost invariant = { λ q. (q.count ≤ length q.commands) × IsSound (record { ids = q.ids; commands = take q.count q.commands }) };
 }
 
 impl Queue {
@@ -56,7 +45,8 @@ impl Queue {
         ensures { result ≡ record { ids = ids; commands = [] } }
     {
         Queue {
-            commands: ArrayVec::new_in(Blank),
+            commands: array::from_fn(|_| unused()),
+            count: 0,
             ids,
         }
     }
@@ -73,7 +63,7 @@ impl Queue {
             ↔ ((length self.old.commands < 8) × (self.old.ids ≡ 2 ^ 32 - 1)) }
         ensures refused { OnErr result (self.new ≡ self.old) }
     {
-        if self.commands.is_full() {
+        if self.pending() == QUEUE_MAX {
             return Err(QueueFault::Full);
         }
         if self.ids == u32::MAX {
@@ -81,19 +71,28 @@ impl Queue {
         }
         self.ids += 1;
         let id = self.ids;
-        self.commands.push(Command {
+        self.commands[self.count] = Command {
             id,
             tries: 0,
             payload,
-        });
+        };
+        self.count += 1;
         Ok(id)
+    }
+
+    // The commands that wait.
+    fn waiting(&self) -> &[Command]
+        ensures commands { result.now ≡ self.now.commands }
+        ensures sound { IsSound self.now }
+    {
+        &self.commands[..self.count]
     }
 
     // The id of the newest command, or 0 where none waits.
     fn newest_id(&self) -> u32
         ensures { result ≡ newest_id 0 self.now.commands }
     {
-        match self.commands.as_slice().last() {
+        match self.waiting().last() {
             Some(newest) => newest.id,
             None => 0,
         }
@@ -103,7 +102,7 @@ impl Queue {
     fn most_tries(&self) -> u8
         ensures { result ≡ most_tries self.now.commands }
     {
-        match self.commands.as_slice() {
+        match self.waiting() {
             [] => TRIES_MAX,
             [_oldest, ..] => 0,
         }
@@ -114,7 +113,7 @@ impl Queue {
     fn may_follow(&self, command: &Command) -> bool
         ensures { result ≡ may_follow self.now command.now }
     {
-        !self.commands.is_full()
+        self.pending() < QUEUE_MAX
             && self.newest_id() < command.id
             && command.id <= self.ids
             && command.tries <= self.most_tries()
@@ -131,7 +130,8 @@ impl Queue {
         if !self.may_follow(&command) {
             return false;
         }
-        self.commands.push(command);
+        self.commands[self.count] = command;
+        self.count += 1;
         true
     }
 
@@ -141,7 +141,7 @@ impl Queue {
         ensures within { IfSome result (λ place. place < length self.now.commands) }
         ensures none { IfNone result (All (λ c. c.id ≢ id) self.now.commands) }
     {
-        self.commands.as_slice().iter().position(|c| c.id == id)
+        self.waiting().iter().position(|c| c.id == id)
     }
 
     /// Takes the command with this id out of the queue.
@@ -157,7 +157,9 @@ impl Queue {
         let Some(place) = self.place_of(id) else {
             return Err(NoSuch(id));
         };
-        Ok(self.commands.remove(place))
+        let command = take_at(&mut self.commands[..self.count], place);
+        self.count -= 1;
+        Ok(command)
     }
 
     /// How many commands wait.
@@ -165,7 +167,7 @@ impl Queue {
         ensures count { result ≡ length self.now.commands }
         ensures sound { IsSound self.now }
     {
-        self.commands.len()
+        self.waiting().len()
     }
 
     /// The command at a place, the oldest one first: none exactly where the place isn't below `pending`.
@@ -174,7 +176,7 @@ impl Queue {
         ensures none { IsNone result ↔ (length self.now.commands ≤ place) }
         ensures sound { IsSound self.now }
     {
-        self.commands.as_slice().get(place)
+        self.waiting().get(place)
     }
 
     /// The last id that was given.
@@ -190,7 +192,7 @@ impl Queue {
         requires { HasTryLeft self.old.commands }
         ensures { self.new ≡ with_try self.old }
     {
-        count_first(self.commands.as_mut_slice());
+        count_first(&mut self.commands[..self.count]);
     }
 }
 
@@ -201,5 +203,26 @@ fn count_first(commands: &mut [Command])
 {
     if let Some(oldest) = commands.first_mut() {
         oldest.tries += 1;
+    }
+}
+
+// Takes the command at a place, and those behind it move one place to the front. The last place is unused then.
+fn take_at(commands: &mut [Command], place: usize) -> Command
+    requires { place < length commands.old }
+    ensures value { HoldsAt (λ c. c ≡ result) commands.old place }
+    ensures len { length commands.new ≡ length commands.old }
+    ensures others { take (length commands.old - 1) commands.new ≡ remove commands.old place }
+{
+    commands[place..].rotate_left(1);
+    let last = commands.len() - 1;
+    mem::replace(&mut commands[last], unused())
+}
+
+// What stands in a place that no command has.
+fn unused() -> Command {
+    Command {
+        id: 0,
+        tries: 0,
+        payload: Payload::new(&[0]).unwrap(),
     }
 }

@@ -1,20 +1,31 @@
--- A restored command finds room, and leaves a sound queue.
-use Rattle.std.proofs.Common.{◌≡◌, true, List, [], ◌∷◌, sym, arith, length-append, subst}
-use Rattle.command_queue.specs.declared.command.Command.{Command}
-use Rattle.command_queue.specs.Pending.{Pending, IsSound, may_follow}
-use Rattle.command_queue.proofs.Moves.{sound_follower}
+-- A restored command finds a place, and leaves a sound queue.
+use Rattle.std.proofs.Common.{rules, sym, ◌∙◌}
+use Rattle.command_queue.proofs.Moves.{followed}
 use Rattle.command_queue.proofs.queue.Queue.restore.Goals as goal
 
-pub push-requires : goal.push-requires
-push-requires c =
-    let q : Pending = record { ids = c.self.inside.ids; commands = c.self.inside.commands.items } in
-    let follows : may_follow q c.args.command ≡ true = cc in
-    let s = sound_follower q c.args.command c.self.invariant follows in
-    (omega arith, omega (arith, s.few, length-append q.commands (c.args.command ∷ [])))
+pub bounds-self-inside-self-inside : goal.bounds-self-inside-self-inside
+bounds-self-inside-self-inside c =
+    let inside = c.self.inside in
+    (followed inside.ids inside.count inside.commands c.args.self.now c.args.command (search rules) c.self.invariant.0
+    c.self.invariant.1 c.self.view_is (sym c.may_follow.ensures ∙ c.if-not-may_follow.false)).free
+
+pub listed : goal.listed
+listed c =
+    let inside = c.self.inside in
+    let f = followed inside.ids inside.count inside.commands c.args.self.now c.args.command (search rules) c.self.invariant.0
+    c.self.invariant.1 c.self.view_is (sym c.may_follow.ensures ∙ c.if-not-may_follow.false) in
+    let free = f.free in
+    search rules
 
 pub invariant_of-self : goal.invariant_of-self
 invariant_of-self c =
-    let q : Pending = record { ids = c.self.inside.ids; commands = c.self.inside.commands.items } in
-    let follows : may_follow q c.args.command ≡ true = cc in
-    subst (λ (cs : List Command). IsSound (record q { commands = cs })) (sym c.push.ensures.items)
-    (sound_follower q c.args.command c.self.invariant follows)
+    let inside = c.self.inside in
+    let f = followed inside.ids inside.count inside.commands c.args.self.now c.args.command (search rules) c.self.invariant.0
+    c.self.invariant.1 c.self.view_is (sym c.may_follow.ensures ∙ c.if-not-may_follow.false) in
+    (f.fits, f.sound)
+
+pub returns-clause-after : goal.returns-clause-after
+returns-clause-after c =
+    let inside = c.self.inside in
+    (followed inside.ids inside.count inside.commands c.args.self.now c.args.command (search rules) c.self.invariant.0
+    c.self.invariant.1 c.self.view_is (sym c.may_follow.ensures ∙ c.if-not-may_follow.false)).after
