@@ -53,11 +53,11 @@ pub struct StepsFiles {
 // Files that take numbers of standard streams with which the program was started closed. A file that was opened before and these take all of
 // them, so that nothing that is printed goes into a file that is written; they can't be written, and so what is printed fails as over a
 // closed stream.
-fn taken_streams<R: Files<File = File>>(rt: &R) -> (Option<File>, Option<File>) {
-    (
+fn taken_streams<R: Files<File = File>>(rt: &R) -> [Option<File>; 2] {
+    [
         File::open(rt, "/dev/null").ok(),
         File::open(rt, "/dev/null").ok(),
-    )
+    ]
 }
 
 // Opens a file that is read. Where it can't be opened that is said.
