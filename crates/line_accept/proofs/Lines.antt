@@ -3,8 +3,8 @@ use Rattle.std.proofs.Common.{◌≡◌, ℕ, ◌+◌, ◌<◌, List, [], ◌∷
 use Rattle.std.specs.Prelude.{nat_lt}
 use Rattle.std.proofs.lemmas.Bool.{cond-true, lt-ltb}
 use Rattle.line_teller.specs.Telling.{AreTold}
-use Rattle.sender_fences.specs.declared.fence.Answer.{Answer}
-use Rattle.sender_fences.specs.Senders.{Sender, answer_in, passed_in}
+use Rattle.line_accept.specs.declared.fence.Answer.{Answer}
+use Rattle.line_accept.specs.Senders.{Sender, answer_in, passed_in}
 use Rattle.line_accept.specs.Deliveries.{Delivery, delivery_of}
 use Rattle.line_accept.specs.Answers.{answer_text, delivery_text, behind_delivery, answers_text, behind_lines, AcceptsLine}
 

@@ -4,8 +4,8 @@ use Rattle.std.proofs.lemmas.List.{append-nil, take_all}
 use Rattle.paper.specs.Puts.{Puts}
 use Rattle.paper.proofs.Calls.{then}
 use Rattle.paper.proofs.Items.{is_put}
-use Rattle.sender_fences.specs.declared.fence.Fence.{Fence}
-use Rattle.sender_fences.specs.Senders.{Sender}
+use Rattle.line_accept.specs.declared.fence.Fence.{Fence}
+use Rattle.line_accept.specs.Senders.{Sender}
 use Rattle.line_accept.specs.Answers.{moved_line, moved_both, moved_at, moved_text}
 
 pub put_there : {P : Type 0} {takes : P → List ℕ → P → Type 0} {p q : P} (firsts : List Fence) (senders : List Sender) (place : ℕ)

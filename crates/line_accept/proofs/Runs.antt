@@ -10,8 +10,8 @@ use Rattle.line_reader.specs.Lines.{is_over}
 use Rattle.line_teller.specs.declared.ending.LinesEnd.{LinesEnd}
 use Rattle.line_teller.specs.declared.ending.LinesEnd.TheVariants as ends
 use Rattle.line_teller.specs.Ending.{EndsText, Ended, is_whole}
-use Rattle.sender_fences.specs.declared.fence.Fence.{Fence}
-use Rattle.sender_fences.specs.Senders.{Sender}
+use Rattle.line_accept.specs.declared.fence.Fence.{Fence}
+use Rattle.line_accept.specs.Senders.{Sender}
 use Rattle.line_accept.specs.declared.fault.SendersFault.TheVariants.{Line}
 use Rattle.line_accept.specs.declared.status.AcceptStatus.{AcceptStatus}
 use Rattle.line_accept.specs.declared.status.AcceptStatus.TheVariants as statuses

@@ -3,7 +3,7 @@ use Rattle.std.proofs.Common.{◌≡◌, ℕ, ◌<◌, List, [], ◌∷◌, true
 use Rattle.std.specs.Prelude.{nat_lt}
 use Rattle.std.proofs.lemmas.Bool.{cond-true, lt-ltb}
 use Rattle.plain_text.specs.Parts.{is_word}
-use Rattle.sender_fences.specs.Senders.{Sender}
+use Rattle.line_accept.specs.Senders.{Sender}
 use Rattle.line_accept.specs.declared.fault.SendersCause.TheVariants as causes
 use Rattle.line_accept.specs.declared.fault.SendersFault.{SendersFault}
 use Rattle.line_accept.specs.declared.fault.SendersFault.TheVariants.{Line, Memory}

@@ -1,11 +1,11 @@
 -- What is answered to lines, one after another.
 use Rattle.std.specs.Prelude.{ℕ, ◌≡◌, ◌==◌, ◌&&◌, Bool, List, [], ◌∷◌, ◌++◌, map, slice_get, codes, Option, Some, None, if◌then◌else◌}
 use Rattle.std.specs.Fmt.{decimal}
-use Rattle.sender_fences.specs.declared.fence.Asked.{Asked}
-use Rattle.sender_fences.specs.declared.fence.Fence.{Fence}
-use Rattle.sender_fences.specs.declared.fence.Answer.{Answer}
-use Rattle.sender_fences.specs.declared.fence.Answer.TheVariants.{Taken, Again, Gap, Unknown}
-use Rattle.sender_fences.specs.Senders.{Sender, answer_in, passed_in}
+use Rattle.line_accept.specs.declared.fence.Asked.{Asked}
+use Rattle.line_accept.specs.declared.fence.Fence.{Fence}
+use Rattle.line_accept.specs.declared.fence.Answer.{Answer}
+use Rattle.line_accept.specs.declared.fence.Answer.TheVariants.{Taken, Again, Gap, Unknown}
+use Rattle.line_accept.specs.Senders.{Sender, answer_in, passed_in}
 use Rattle.line_accept.specs.Deliveries.{Delivery, delivery_of}
 
 -- ---- one line

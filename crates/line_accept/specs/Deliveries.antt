@@ -2,7 +2,7 @@
 use Rattle.std.specs.Prelude.{ℕ, nat_le, nat_lt, List, [], ◌∷◌, length, Option, Some, None, if◌then◌else◌}
 use Rattle.std.specs.Option.{option_and_then}
 use Rattle.plain_text.specs.Parts.{fields_of}
-use Rattle.sender_fences.specs.declared.fence.Numbered.{Numbered}
+use Rattle.line_accept.specs.declared.fence.Numbered.{Numbered}
 use Rattle.line_accept.specs.Names.{is_name}
 use Rattle.line_accept.specs.Numbers.{epoch_in, number_in}
 

@@ -1,6 +1,6 @@
 -- Words of private contracts: what reading the text of senders answers.
 use Rattle.std.specs.Prelude.{◌≡◌, Result, Err}
-use Rattle.sender_fences.specs.Senders.{Sender}
+use Rattle.line_accept.specs.Senders.{Sender}
 use Rattle.line_accept.specs.declared.fault.SendersFault.{SendersFault}
 use Rattle.line_accept.specs.declared.fault.SendersFault.TheVariants.{Line, Memory}
 use Rattle.line_accept.specs.declared.reader.SenderRead.{SenderRead}

@@ -5,7 +5,7 @@ use Rattle.std.specs.Str.Lines.{lines}
 use Rattle.lists.specs.Steps.{◌>>=◌}
 use Rattle.plain_text.specs.Parts.{fields_of, is_word}
 use Rattle.roster_file.specs.Roster.{entries_from}
-use Rattle.sender_fences.specs.Senders.{Sender, fence_of}
+use Rattle.line_accept.specs.Senders.{Sender, fence_of}
 use Rattle.line_accept.specs.declared.fault.SendersCause.{SendersCause}
 use Rattle.line_accept.specs.declared.fault.SendersCause.TheVariants as causes
 use Rattle.line_accept.specs.declared.fault.SendersFault.{SendersFault}

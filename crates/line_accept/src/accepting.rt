@@ -7,7 +7,7 @@ use crate::texts::put_answer;
 use line_teller::{Sheet, Teller};
 use outer_io::Memory;
 use paper::put_text;
-use sender_fences::Senders;
+use crate::senders::Senders;
 use std::alloc::Global;
 use std::marker::Model;
 
@@ -19,7 +19,7 @@ pub(crate) struct Accepting {
 
 impl Model for Accepting {
     ghost use Rattle.std.specs.Prelude.{List};
-    ghost use Rattle.sender_fences.specs.Senders.{Sender};
+    ghost use Rattle.line_accept.specs.Senders.{Sender};
 
     ghost Value = { List Sender };
 

@@ -4,7 +4,7 @@ ghost use Rattle.line_accept.specs.Deliveries.{message_with, message_in, deliver
 
 use crate::names::is_name;
 use plain_text::{Fields, read_number};
-use sender_fences::Numbered;
+use crate::fence::Numbered;
 
 /// The most bytes of a line that delivers anything, without its end: a name, an epoch and a number, with a space between each two.
 pub const LINE_MAX: usize = 96;

@@ -1,6 +1,6 @@
 //! Reading the text of senders.
 ghost use Rattle.std.specs.Prelude.{◌≡◌, ◌∷◌, ◌++◌, [], None, Ok, Err, IfOk, IfErr, OnOk, MatchResult, codes};
-ghost use Rattle.sender_fences.specs.Senders.{fence_of};
+ghost use Rattle.line_accept.specs.Senders.{fence_of};
 ghost use Rattle.plain_text.specs.Parts.{is_word};
 ghost use Rattle.line_accept.specs.SendersFile.{sender_in, sender_of, with_line, ended, senders_from, headed, senders_of};
 ghost use Rattle.line_accept.specs.Reading.{sender_read, IsFaultOf};
@@ -10,7 +10,8 @@ use crate::names::is_name;
 use outer_io::Memory;
 use plain_text::{Fields, read_number};
 use roster_file::{Entries, Entry};
-use sender_fences::{Fence, Senders};
+use crate::fence::Fence;
+use crate::senders::Senders;
 use std::alloc::Global;
 
 /// The most bytes of a text of senders.

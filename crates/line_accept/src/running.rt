@@ -13,7 +13,7 @@ use line_reader::TextReader;
 use line_teller::tell_lines;
 use outer_io::{ReadError, Sink, Source, StdSink, read_all};
 use paper::write;
-use sender_fences::Senders;
+use crate::senders::Senders;
 use std::alloc::Global;
 
 // The senders of all bytes that a source has left, or the status that says why there are none.

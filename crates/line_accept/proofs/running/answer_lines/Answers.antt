@@ -1,7 +1,7 @@
 -- The answers by how the lines ended, and whether what moved is written.
 use Rattle.std.proofs.Common.{◌++◌, List, sym, ap, ◌∙◌, subst}
 use Rattle.outer_io.specs.Bytes.{AppendsFront}
-use Rattle.sender_fences.specs.Senders.{Sender}
+use Rattle.line_accept.specs.Senders.{Sender}
 use Rattle.line_accept.specs.Answers.{moved_text}
 use Rattle.line_accept.proofs.Runs.{none_answered, cut_answers, whole_answers, unwritten_answers}
 use Rattle.line_accept.proofs.running.answer_lines.Goals as goal

@@ -1,6 +1,0 @@
-use Rattle.std.proofs.Common.{◌≡◌, take}
-use Rattle.std.specs.Map.{values_of}
-use Rattle.sender_fences.proofs.senders.Senders.fences.Given as goal
-
-abbrev pub invariant-loop-place : goal.invariant-loop-place
-invariant-loop-place l = l.fences.items ≡ take l.place (values_of l.self-inside.fences.entries)

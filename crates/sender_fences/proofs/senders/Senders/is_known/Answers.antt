@@ -1,7 +1,0 @@
-use Rattle.sender_fences.proofs.Places.{known_is}
-use Rattle.sender_fences.proofs.senders.Senders.is_known.Goals as goal
-
-pub returns : goal.returns
-returns c =
-    known_is (λ k. k.items) c.args.name.now (record { epoch = 0; number = 0 }) c.self.inside.fences.entries c.args.self.now c.self.view_is
-    c.contains_key.result c.contains_key.ensures
