@@ -3,11 +3,11 @@ use Rattle.std.proofs.Common.{◌≡◌, ℕ, List, [], ◌∷◌, ◌++◌, Opt
 use Rattle.std.specs.Prelude.{IsErr}
 use Rattle.std.proofs.lemmas.List.Sums.{fold-append}
 use Rattle.outer_io.specs.declared.failures.Memory.{Memory}
-use Rattle.meter_usage.specs.declared.fault.TotalsFault.{TotalsFault}
-use Rattle.meter_usage.specs.declared.fault.TotalsFault.TheVariants as faults
-use Rattle.meter_usage.specs.Amounts.{Row}
-use Rattle.meter_usage.specs.Table.{Table}
-use Rattle.meter_usage.specs.Edits.{Edit, edited, fault_of, rows_after, StandsFor, IsAnswered}
+use Rattle.usage_totals.specs.declared.fault.TotalsFault.{TotalsFault}
+use Rattle.usage_totals.specs.declared.fault.TotalsFault.TheVariants as faults
+use Rattle.usage_totals.specs.Amounts.{Row}
+use Rattle.usage_totals.specs.Table.{Table}
+use Rattle.usage_totals.specs.Edits.{Edit, edited, fault_of, rows_after, StandsFor, IsAnswered}
 use Rattle.usage_totals.specs.Texts.{unless}
 use Rattle.usage_totals.specs.Answering.{Keeps, DoesEdit, Settles}
 

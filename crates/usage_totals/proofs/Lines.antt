@@ -6,7 +6,7 @@ use Rattle.std.proofs.lemmas.List.{length-append, take-append-drop, take-append-
 use Rattle.outer_io.specs.Bytes.{AppendsFront}
 use Rattle.plain_text.specs.Parts.{fields_of}
 use Rattle.line_teller.specs.Telling.{AreTold}
-use Rattle.meter_usage.specs.Table.{Table}
+use Rattle.usage_totals.specs.Table.{Table}
 use Rattle.usage_totals.specs.declared.answer.Answerer.{Answerer}
 use Rattle.usage_totals.specs.Requests.{request_of, by_sign}
 use Rattle.usage_totals.specs.Texts.{answer_text, answers, rows_after_line, rows_told}

@@ -5,14 +5,14 @@ use Rattle.std.specs.List.{flat_map}
 use Rattle.std.proofs.Math.Path.{fun_ext}
 use Rattle.paper.specs.Pieces.{text_if}
 use Rattle.meter_address.specs.declared.address.Address.{Address}
-use Rattle.meter_usage.specs.declared.key.UsageKey.{UsageKey}
-use Rattle.meter_usage.specs.Amounts.{Row}
-use Rattle.meter_usage.specs.Usage.{usage, usage_at}
-use Rattle.meter_usage.specs.Sums.{total, total_at, keys_in}
-use Rattle.meter_usage.specs.Table.{Table, rows_at, kept}
-use Rattle.meter_usage.specs.Edits.{Edit, rows_after, StandsFor}
-use Rattle.meter_usage.proofs.Tables.{kept_rows}
-use Rattle.meter_usage.proofs.Payloads.{usage_kept, total_kept}
+use Rattle.usage_totals.specs.declared.key.UsageKey.{UsageKey}
+use Rattle.usage_totals.specs.Amounts.{Row}
+use Rattle.usage_totals.specs.Usage.{usage, usage_at}
+use Rattle.usage_totals.specs.Sums.{total, total_at, keys_in}
+use Rattle.usage_totals.specs.Table.{Table, rows_at, kept}
+use Rattle.usage_totals.specs.Edits.{Edit, rows_after, StandsFor}
+use Rattle.usage_totals.proofs.Tables.{kept_rows}
+use Rattle.usage_totals.proofs.Payloads.{usage_kept, total_kept}
 use Rattle.usage_totals.specs.Texts.{usage_line, total_line, done_text, usages_text, totals_text, usages_kept, totals_kept}
 use Rattle.usage_totals.specs.Answering.{Keeps}
 

@@ -9,11 +9,11 @@ use Rattle.paper.proofs.Calls.{none}
 use Rattle.line_teller.specs.Telling.{Tells}
 use Rattle.line_teller.proofs.Keeping.{told_by}
 use Rattle.meter_address.specs.declared.address.Address.{Address}
-use Rattle.meter_usage.specs.declared.key.UsageKey.{UsageKey}
-use Rattle.meter_usage.specs.Amounts.{Row}
-use Rattle.meter_usage.specs.Sums.{keys_in}
-use Rattle.meter_usage.specs.Table.{Table}
-use Rattle.meter_usage.specs.Edits.{Edit, rows_after, StandsFor}
+use Rattle.usage_totals.specs.declared.key.UsageKey.{UsageKey}
+use Rattle.usage_totals.specs.Amounts.{Row}
+use Rattle.usage_totals.specs.Sums.{keys_in}
+use Rattle.usage_totals.specs.Table.{Table}
+use Rattle.usage_totals.specs.Edits.{Edit, rows_after, StandsFor}
 use Rattle.usage_totals.specs.declared.answer.Answerer.{Answerer}
 use Rattle.usage_totals.specs.Requests.{Request, usages, totals, request_of}
 use Rattle.usage_totals.specs.Texts.{named_if, usages_text, usages_kept, totals_kept, answer_text, rows_by}

@@ -4,11 +4,11 @@ use Rattle.paper.specs.InMemory as sheets
 use Rattle.paper.specs.InMemory.{Kept}
 use Rattle.paper.specs.Puts.{Puts}
 use Rattle.outer_io.specs.declared.failures.Memory.{Memory}
-use Rattle.meter_usage.specs.declared.fault.TotalsFault.{TotalsFault}
-use Rattle.meter_usage.specs.declared.fault.TotalsFault.TheVariants as faults
-use Rattle.meter_usage.specs.Amounts.{Row}
-use Rattle.meter_usage.specs.Table.{Table}
-use Rattle.meter_usage.specs.Edits.{Edit, edited, fault_of, rows_after, StandsFor}
+use Rattle.usage_totals.specs.declared.fault.TotalsFault.{TotalsFault}
+use Rattle.usage_totals.specs.declared.fault.TotalsFault.TheVariants as faults
+use Rattle.usage_totals.specs.Amounts.{Row}
+use Rattle.usage_totals.specs.Table.{Table}
+use Rattle.usage_totals.specs.Edits.{Edit, edited, fault_of, rows_after, StandsFor}
 use Rattle.usage_totals.specs.declared.answer.Answerer.{Answerer}
 use Rattle.usage_totals.specs.Requests.{Request, request_of}
 use Rattle.usage_totals.specs.Texts.{unless, answer_text, rows_by}

@@ -6,7 +6,7 @@ use Rattle.plain_text.specs.Numbers.{number_of}
 use Rattle.plain_text.specs.Parts.{fields_of, is_word}
 use Rattle.meter_address.specs.declared.address.Address.{Address}
 use Rattle.meter_address.specs.Address.{address_of}
-use Rattle.meter_usage.specs.Edits.{Edit, addition, replacement, removal}
+use Rattle.usage_totals.specs.Edits.{Edit, addition, replacement, removal}
 use Rattle.usage_totals.specs.declared.request.EditRead.{EditRead}
 use Rattle.usage_totals.specs.declared.request.EditRead.TheVariants.{Add, Replace, Remove}
 use Rattle.usage_totals.specs.declared.request.RequestRead.{RequestRead}

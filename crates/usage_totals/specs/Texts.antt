@@ -6,15 +6,15 @@ use Rattle.paper.specs.Pieces.{labelled, text_if}
 use Rattle.meter_address.specs.declared.address.Address.{Address}
 use Rattle.meter_address.specs.Address.{text_of}
 use Rattle.unit_text.specs.Pieces.{register_text, unit_text}
-use Rattle.meter_usage.specs.declared.key.UsageKey.{UsageKey}
-use Rattle.meter_usage.specs.declared.sums.Sum.{Sum}
-use Rattle.meter_usage.specs.declared.fault.TotalsFault.{TotalsFault}
-use Rattle.meter_usage.specs.declared.fault.TotalsFault.TheVariants.{Meters, Rows, NoSuch, Memory}
-use Rattle.meter_usage.specs.Amounts.{Row}
-use Rattle.meter_usage.specs.Usage.{usage, usage_at}
-use Rattle.meter_usage.specs.Sums.{total, total_at, keys_in}
-use Rattle.meter_usage.specs.Table.{Table, rows_at}
-use Rattle.meter_usage.specs.Edits.{Edit, addition, replacement, removal, edited, fault_of}
+use Rattle.usage_totals.specs.declared.key.UsageKey.{UsageKey}
+use Rattle.usage_totals.specs.declared.sums.Sum.{Sum}
+use Rattle.usage_totals.specs.declared.fault.TotalsFault.{TotalsFault}
+use Rattle.usage_totals.specs.declared.fault.TotalsFault.TheVariants.{Meters, Rows, NoSuch, Memory}
+use Rattle.usage_totals.specs.Amounts.{Row}
+use Rattle.usage_totals.specs.Usage.{usage, usage_at}
+use Rattle.usage_totals.specs.Sums.{total, total_at, keys_in}
+use Rattle.usage_totals.specs.Table.{Table, rows_at}
+use Rattle.usage_totals.specs.Edits.{Edit, addition, replacement, removal, edited, fault_of}
 use Rattle.usage_totals.specs.Requests.{Request, edits, usages, totals, request_of}
 
 -- ---- the address in an answer

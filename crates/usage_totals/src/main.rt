@@ -12,12 +12,25 @@ ghost use Rattle.usage_totals.specs.Words.{totals_asked};
 ghost use Rattle.program_words.specs.OwnTexts.{asks_for_text, IsTold};
 ghost use Rattle.usage_totals.specs.Exit.{IsRunExit};
 
+mod amounts;
 mod answer;
 mod asked;
+mod edits;
+mod fault;
+mod index;
+mod key;
+mod laws;
+mod mending;
+mod meter;
+mod meters;
 mod request;
+mod rows;
 mod running;
+mod series;
 mod status;
+mod sums;
 mod texts;
+mod totals;
 
 use asked::totals_asked;
 use line_reader::TextReader;

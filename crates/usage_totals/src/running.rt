@@ -10,7 +10,7 @@ use crate::asked::totals_asked;
 use crate::status::TotalsStatus;
 use line_reader::TextReader;
 use line_teller::tell_one_by_one;
-use meter_usage::Totals;
+use crate::totals::Totals;
 use outer_io::{Sink, Source, StdSink};
 use std::alloc::Global;
 

@@ -3,14 +3,16 @@ ghost use Rattle.std.specs.Prelude.{◌≡◌, codes};
 ghost use Rattle.std.specs.List.{flat_map};
 ghost use Rattle.paper.specs.Puts.{Puts};
 ghost use Rattle.paper.specs.Pieces.{labelled, text_if};
-ghost use Rattle.meter_usage.specs.Usage.{usage_at};
-ghost use Rattle.meter_usage.specs.Sums.{total_at};
-ghost use Rattle.meter_usage.specs.Table.{rows_at};
+ghost use Rattle.usage_totals.specs.Usage.{usage_at};
+ghost use Rattle.usage_totals.specs.Sums.{total_at};
+ghost use Rattle.usage_totals.specs.Table.{rows_at};
 ghost use Rattle.usage_totals.specs.Texts.{named_if, address_text, done_text, refusal_text, edit_text, key_text};
 ghost use Rattle.usage_totals.specs.Texts.{usage_line, total_line, usages_kept, totals_kept};
 
 use meter_address::Address;
-use meter_usage::{Totals, TotalsFault, UsageKey};
+use crate::fault::TotalsFault;
+use crate::key::UsageKey;
+use crate::totals::Totals;
 use paper::{Paper, put_hex, put_labelled, put_signed, put_text};
 use unit_text::{put_register, put_unit};
 

@@ -1,5 +1,5 @@
 use Rattle.std.proofs.Common.{sym, subst, ap, ◌∙◌}
-use Rattle.meter_usage.specs.Edits.{addition, replacement}
+use Rattle.usage_totals.specs.Edits.{addition, replacement}
 use Rattle.usage_totals.specs.Requests.{edit_read}
 use Rattle.usage_totals.specs.Answering.{DoesEdit}
 use Rattle.usage_totals.proofs.Edits.{edit_settled}

@@ -1,6 +1,6 @@
 use Rattle.std.proofs.Common.{ℕ, ℤ, ap, sym}
 use Rattle.paper.proofs.Items.{is_put}
-use Rattle.meter_usage.specs.declared.sums.Sum.{Sum}
+use Rattle.usage_totals.specs.declared.sums.Sum.{Sum}
 use Rattle.usage_totals.specs.Texts.{total_line}
 use Rattle.usage_totals.proofs.texts.put_total_of.Goals as goal
 

@@ -1,5 +1,5 @@
 use Rattle.paper.proofs.Items.{one_at}
-use Rattle.meter_usage.specs.Sums.{total_at}
+use Rattle.usage_totals.specs.Sums.{total_at}
 use Rattle.usage_totals.specs.Texts.{total_line}
 use Rattle.usage_totals.proofs.texts.put_totals.Goals as goal
 

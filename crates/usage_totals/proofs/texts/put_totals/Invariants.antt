@@ -1,7 +1,7 @@
 use Rattle.std.proofs.Common.{take}
 use Rattle.std.specs.List.{flat_map}
 use Rattle.paper.specs.Puts.{Puts}
-use Rattle.meter_usage.specs.Sums.{total_at}
+use Rattle.usage_totals.specs.Sums.{total_at}
 use Rattle.usage_totals.specs.Texts.{total_line}
 use Rattle.usage_totals.proofs.texts.put_totals.Given as goal
 

@@ -1,8 +1,8 @@
 use Rattle.std.proofs.Common.{ap, sym}
 use Rattle.paper.specs.Pieces.{text_if}
 use Rattle.paper.proofs.Items.{is_put, one_at}
-use Rattle.meter_usage.specs.Usage.{usage_at}
-use Rattle.meter_usage.specs.Table.{rows_at}
+use Rattle.usage_totals.specs.Usage.{usage_at}
+use Rattle.usage_totals.specs.Table.{rows_at}
 use Rattle.usage_totals.specs.Texts.{usage_line}
 use Rattle.usage_totals.proofs.texts.put_usages.Goals as goal
 

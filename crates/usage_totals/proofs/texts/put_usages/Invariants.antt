@@ -2,8 +2,8 @@ use Rattle.std.proofs.Common.{take}
 use Rattle.std.specs.List.{flat_map}
 use Rattle.paper.specs.Puts.{Puts}
 use Rattle.paper.specs.Pieces.{text_if}
-use Rattle.meter_usage.specs.Usage.{usage_at}
-use Rattle.meter_usage.specs.Table.{rows_at}
+use Rattle.usage_totals.specs.Usage.{usage_at}
+use Rattle.usage_totals.specs.Table.{rows_at}
 use Rattle.usage_totals.specs.Texts.{usage_line}
 use Rattle.usage_totals.proofs.texts.put_usages.Given as goal
 

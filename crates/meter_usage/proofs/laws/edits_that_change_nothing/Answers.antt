@@ -1,8 +1,0 @@
-use Rattle.meter_usage.proofs.Unchanged.{replaced_itself, added_and_removed}
-use Rattle.meter_usage.proofs.laws.edits_that_change_nothing.Goals as goal
-
-pub returns-clause-itself : goal.returns-clause-itself
-returns-clause-itself c = replaced_itself
-
-pub returns-clause-again : goal.returns-clause-again
-returns-clause-again c = added_and_removed

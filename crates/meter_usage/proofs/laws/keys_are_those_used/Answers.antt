@@ -1,9 +1,0 @@
-use Rattle.meter_usage.specs.Edits.{rows_after}
-use Rattle.meter_usage.proofs.KeysIn.{keys_in_order, among_keys_in}
-use Rattle.meter_usage.proofs.laws.keys_are_those_used.Goals as goal
-
-pub returns-clause-ordered : goal.returns-clause-ordered
-returns-clause-ordered c = λ edits. keys_in_order (rows_after edits)
-
-pub returns-clause-used : goal.returns-clause-used
-returns-clause-used c = λ edits key. among_keys_in key (rows_after edits)
