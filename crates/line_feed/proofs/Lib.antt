@@ -1,0 +1,5 @@
+pub mod Telegrams
+pub mod Json
+pub mod FedLines
+pub mod Feeds
+pub mod ReadBack

@@ -1,8 +1,8 @@
 -- The words of the program.
 use Rattle.std.specs.Prelude.{ℕ, List, [], ◌∷◌, codes, Bool, false, nat_eq, Option, None}
 use Rattle.std.specs.Cmp.Lexicographic.{pointwise}
-use Rattle.line_feed_main.specs.declared.printings.Printing.{Printing}
-use Rattle.line_feed_main.specs.Printings.{printing_of}
+use Rattle.line_feed.specs.declared.printings.Printing.{Printing}
+use Rattle.line_feed.specs.Printings.{printing_of}
 
 -- the format that the words ask for: its name is the only word
 abbrev pub printing_asked : List (List ℕ) → Option Printing

@@ -1,5 +1,5 @@
 //! The clock of the machine.
-use line_feed_main::Clock;
+use crate::clock::Clock;
 use std::time::{SystemTime, UNIX_EPOCH};
 
 /// The machine's clock. What it really says is trusted; where it can't be read, it says 0.

@@ -1,5 +1,5 @@
 //! What a status means, in words.
-use line_feed_main::FeedStatus;
+use crate::status::FeedStatus;
 use line_stream::Unfit;
 use std::fmt;
 

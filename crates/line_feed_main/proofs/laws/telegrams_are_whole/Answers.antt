@@ -1,5 +1,0 @@
-use Rattle.line_feed_main.proofs.ReadBack.{telegrams_are_whole}
-use Rattle.line_feed_main.proofs.laws.telegrams_are_whole.Goals as goal
-
-pub returns : goal.returns
-returns c = telegrams_are_whole
