@@ -7,7 +7,7 @@ use Rattle.line_teller.specs.declared.ending.LinesEnd.{LinesEnd}
 use Rattle.line_teller.specs.declared.ending.LinesEnd.TheVariants as ends
 use Rattle.line_teller.specs.Ending.{IsNoted}
 use Rattle.line_teller.proofs.Steps.{noted_then}
-use Rattle.line_stream.specs.Streams.{StreamEnded}
+use Rattle.line_feed.specs.Streams.{StreamEnded}
 use Rattle.line_feed.specs.declared.status.FeedStatus.TheVariants as statuses
 use Rattle.line_feed.specs.Feeding.{Fed, fresh, AreFed, noted, fed_behind, FeedsLine}
 use Rattle.line_feed.specs.Run.{Run, IsRun, IsFed, IsUnhindered, feeds_all, status_of, ending_of, end_notes}

@@ -3,3 +3,8 @@ pub mod Json
 pub mod FedLines
 pub mod Feeds
 pub mod ReadBack
+pub mod Cuts
+pub mod StreamReads
+pub mod Files
+pub mod Limits
+pub mod StreamEnds

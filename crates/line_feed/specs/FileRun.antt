@@ -1,7 +1,7 @@
 -- A feed into a file that is appended to.
 use Rattle.std.specs.Prelude.{Bool, IsTrue}
 use Rattle.outer_io.specs.Shown.{Change, SourceShown, SinkShown}
-use Rattle.line_stream.specs.Files.{IsWholePart}
+use Rattle.line_feed.specs.Files.{IsWholePart}
 use Rattle.line_feed.specs.declared.printings.Printing.{Printing}
 use Rattle.line_feed.specs.declared.status.FeedStatus.{FeedStatus}
 use Rattle.line_feed.specs.Run.{IsRun}

@@ -4,7 +4,7 @@ use Rattle.outer_io.specs.Shown.{Change, SourceShown, SinkShown, ReadFailed, Wri
 use Rattle.line_teller.specs.declared.ending.LinesEnd.{LinesEnd}
 use Rattle.line_teller.specs.declared.ending.LinesEnd.TheVariants as ends
 use Rattle.line_teller.specs.Ending.{EndsText, IsNoted, is_whole}
-use Rattle.line_stream.specs.Streams.{EndsStream}
+use Rattle.line_feed.specs.Streams.{EndsStream}
 use Rattle.line_feed.specs.declared.printings.Printing.{Printing}
 use Rattle.line_feed.specs.declared.status.FeedStatus.{FeedStatus}
 use Rattle.line_feed.specs.declared.status.FeedStatus.TheVariants as statuses

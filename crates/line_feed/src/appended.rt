@@ -3,7 +3,7 @@ ghost use Rattle.std.specs.Prelude.{◌<◌, ◌≤◌, false, [], length, IfSom
 ghost use Rattle.std.specs.Process.{exit_status};
 ghost use Rattle.outer_io.specs.Faults.{Rose};
 
-use line_stream::LineFile;
+use crate::line_file::LineFile;
 use outer_io::{Failed, Sink};
 use program_words::cannot_open;
 use std::fs::{File, Files, OpenOptions, TryLockError};

@@ -13,7 +13,7 @@ use crate::notes::{put_note, put_zone_note};
 use crate::printings::Printing;
 use crate::reasons::NotTaken;
 use frame_formats::{Telegram, encode_a};
-use line_stream::StreamTeller;
+use crate::teller::StreamTeller;
 use line_teller::Sheet;
 use outer_io::Memory;
 use paper::{Paper, put_labelled, put_labelled_bytes, put_text};

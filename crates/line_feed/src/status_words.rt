@@ -1,6 +1,6 @@
 //! What a status means, in words.
 use crate::status::FeedStatus;
-use line_stream::Unfit;
+use crate::cutting::Unfit;
 use std::fmt;
 
 /// A status, said in words.

@@ -1,5 +1,0 @@
-pub mod Opened
-pub mod Streams
-pub mod Files
-pub mod Laws
-pub mod Pieces
