@@ -1,7 +1,7 @@
 -- The exit statuses of a check.
 use Rattle.std.proofs.Common.{ℕ, zero, suc, true, false, Bool, Result, Ok, Err, refl, subst, arith}
-use Rattle.input_check_main.specs.declared.states.Stop.{Stop}
-use Rattle.input_check_main.specs.declared.states.Stop.TheVariants as stops
+use Rattle.input_check.specs.declared.states.Stop.{Stop}
+use Rattle.input_check.specs.declared.states.Stop.TheVariants as stops
 use Rattle.input_check.specs.Exit.{code_of, status_of, IsRunExit, IsUnopened}
 
 -- each answer of a check has one of them

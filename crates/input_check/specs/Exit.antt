@@ -1,8 +1,8 @@
 -- How the program ends.
 use Rattle.std.specs.Prelude.{ℕ, Bool, true, false, List, [], ◌∷◌, Result, Ok, Err}
 use Rattle.std.specs.List.{Contains}
-use Rattle.input_check_main.specs.declared.states.Stop.{Stop}
-use Rattle.input_check_main.specs.declared.states.Stop.TheVariants as stops
+use Rattle.input_check.specs.declared.states.Stop.{Stop}
+use Rattle.input_check.specs.declared.states.Stop.TheVariants as stops
 use Rattle.input_check.specs.declared.status.CheckStatus.{CheckStatus}
 use Rattle.input_check.specs.declared.status.CheckStatus.TheVariants as statuses
 

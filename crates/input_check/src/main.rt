@@ -5,15 +5,26 @@ ghost use Rattle.std.specs.Prelude.{◌≡◌, [], true, false, length, map, Boo
 ghost use Rattle.std.specs.String.{string_bytes};
 ghost use Rattle.std.specs.Process.{exit_status};
 ghost use Rattle.lists.specs.Each.{Each};
-ghost use Rattle.input_check_main.specs.declared.states.Stop.{Stop};
-ghost use Rattle.input_check_main.specs.Receivers.{IsFresh};
-ghost use Rattle.input_check_main.specs.Run.{run_of, IsRun};
+ghost use Rattle.input_check.specs.declared.states.Stop.{Stop};
+ghost use Rattle.input_check.specs.Receivers.{IsFresh};
+ghost use Rattle.input_check.specs.Run.{run_of, IsRun};
 ghost use Rattle.program_words.specs.OwnTexts.{asks_for_text, IsTold};
 ghost use Rattle.input_check.specs.Exit.{code_of, status_of, names_state, IsRunExit, IsUnopened};
 
+mod bytes;
+mod causes;
+mod faulty;
+mod findings;
+mod hints;
+mod inputs;
+mod noticing;
+mod pieces;
+mod receivers;
+mod states;
 mod status;
 
-use input_check_main::{Stop, check_inputs};
+use crate::inputs::check_inputs;
+use crate::states::Stop;
 use line_reader::Lines;
 use outer_io::{Sink, Source, StdSink, StdSource};
 use program_words::{NoWords, OwnText, command_words, open_to_read, own_text, tell};

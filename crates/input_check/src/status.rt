@@ -1,5 +1,5 @@
 //! How a check ends.
-use input_check_main::Stop;
+use crate::states::Stop;
 use std::fmt;
 
 /// How a check ended.

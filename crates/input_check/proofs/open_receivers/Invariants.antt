@@ -1,6 +1,6 @@
 use Rattle.std.proofs.Common.{◌≡◌, length}
 use Rattle.lists.specs.Each.{Each}
-use Rattle.input_check_main.specs.Receivers.{IsFresh}
+use Rattle.input_check.specs.Receivers.{IsFresh}
 use Rattle.input_check.proofs.open_receivers.Given as goal
 
 abbrev pub invariant-loop-name : goal.invariant-loop-name

@@ -1,6 +1,0 @@
-use Rattle.std.proofs.Common.{take}
-use Rattle.input_check_main.specs.Counting.{AreCounts}
-use Rattle.input_check_main.proofs.noticing.counted.Given as goal
-
-abbrev pub invariant-loop-address : goal.invariant-loop-address
-invariant-loop-address l = AreCounts (take l.address-index l.addresses) l.counts.entries

@@ -1,8 +1,0 @@
-use Rattle.std.proofs.Common.{◌≡◌, take}
-use Rattle.input_check_main.specs.Counting.{was_counted}
-use Rattle.input_check_main.specs.Noticing.{notes_on_unheard}
-use Rattle.input_check_main.proofs.noticing.unheard_notes.Given as goal
-
-abbrev pub invariant-loop-meter : goal.invariant-loop-meter
-invariant-loop-meter l =
-    l.notes.items ≡ notes_on_unheard (was_counted l.heard.entries) (was_counted l.known.entries) (take l.meter-index l.meters)
