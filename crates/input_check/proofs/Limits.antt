@@ -3,7 +3,7 @@ use Rattle.std.proofs.Common.{◌≡◌, ℕ, ◌<◌, ◌≤◌, List, [], ◌+
 use Rattle.std.proofs.lemmas.Bool.{cond_both}
 use Rattle.outer_io.specs.Shown.{Change, SourceShown, LosesNothing, IsReadOut}
 use Rattle.line_reader.specs.Lines.{is_over}
-use Rattle.input_faults.specs.StateFaults.{is_state}
+use Rattle.input_check.specs.StateFaults.{is_state}
 use Rattle.input_check.specs.declared.faulty.FaultyLines.{FaultyLines}
 use Rattle.input_check.specs.Bytes.{unmarked}
 use Rattle.input_check.specs.Finding.{AreAllFound}

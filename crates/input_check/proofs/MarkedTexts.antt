@@ -11,8 +11,8 @@ use Rattle.roster_file.specs.Roster.{entries_from, is_passed_over, roster_of, he
 use Rattle.roster_file.proofs.RosterLines.{counted}
 use Rattle.state_file.specs.declared.fault.StateFault.{StateFault}
 use Rattle.state_file.specs.Whole.{Known, headed, of_roster, state_of}
-use Rattle.input_faults.specs.StateFaults.{refused, first_of, state_faults_of}
-use Rattle.input_faults.proofs.StateFaults.{first_fault_refuses}
+use Rattle.input_check.specs.StateFaults.{refused, first_of, state_faults_of}
+use Rattle.input_check.proofs.StateFaults.{first_fault_refuses}
 use Rattle.input_check.specs.Bytes.{has_mark}
 use Rattle.input_check.specs.States.{is_faulty_text}
 

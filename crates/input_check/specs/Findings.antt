@@ -4,7 +4,7 @@ use Rattle.std.specs.List.{flat_map}
 use Rattle.paper.specs.Pieces.{labelled}
 use Rattle.state_file.specs.declared.fault.StateFault.{StateFault}
 use Rattle.state_file.specs.declared.fault.StateFault.TheVariants.{Roster, Line, Memory}
-use Rattle.input_faults.specs.StateFaults.{is_state, state_faults_of}
+use Rattle.input_check.specs.StateFaults.{is_state, state_faults_of}
 use Rattle.input_check.specs.declared.faulty.FaultyLine.{FaultyLine}
 use Rattle.input_check.specs.Bytes.{unmarked, mark_words, bytes_words}
 use Rattle.input_check.specs.Causes.{roster_words, state_words, line_words}

@@ -7,7 +7,7 @@ use Rattle.meter_slots.specs.Journal.{commission_of}
 use Rattle.roster_file.specs.Roster.{Enrolled, roster_of}
 use Rattle.state_file.specs.declared.fault.StateFault.{StateFault}
 use Rattle.state_file.specs.Whole.{Known, state_of}
-use Rattle.input_faults.specs.StateFaults.{most_bytes, state_faults_of}
+use Rattle.input_check.specs.StateFaults.{most_bytes, state_faults_of}
 use Rattle.input_check.specs.Bytes.{has_mark, unmarked}
 
 -- a byte order mark stands in front, or a line of the text behind it is faulty

@@ -20,6 +20,8 @@ mod inputs;
 mod noticing;
 mod pieces;
 mod receivers;
+mod roster_faults;
+mod state_faults;
 mod states;
 mod status;
 

@@ -4,7 +4,7 @@ ghost use Rattle.outer_io.specs.Bytes.{AppendsFront};
 ghost use Rattle.outer_io.specs.Shown.{ReadFailed, IsReadOut, LosesNothing, source_change, sink_change};
 ghost use Rattle.meter_slots.specs.Journal.{commission_of};
 ghost use Rattle.state_file.specs.Whole.{state_of};
-ghost use Rattle.input_faults.specs.StateFaults.{most_bytes};
+ghost use Rattle.input_check.specs.StateFaults.{most_bytes};
 ghost use Rattle.input_check.specs.Bytes.{has_mark};
 ghost use Rattle.input_check.specs.States.{is_faulty_text, meters_in, most_in, IsTooLong, IsReadWithin, FaultyAreRefused, RostersHaveTheirMeters};
 ghost use Rattle.input_check.specs.Stops.{StopsBy, FileStops};
@@ -12,7 +12,7 @@ ghost use Rattle.input_check.specs.Findings.{file_word, state_text};
 
 use crate::bytes::{has_mark, unmarked};
 use crate::findings::StateFindings;
-use input_faults::{is_state, state_faults};
+use crate::state_faults::{is_state, state_faults};
 use meter_address::Commission;
 use meter_slots::MeterStart;
 use outer_io::{Memory, ReadError, Sink, Source, read_all};

@@ -1,7 +1,7 @@
 use Rattle.std.proofs.Common.{◌≡◌, ◌++◌, length}
 use Rattle.state_file.specs.Whole.{no_meters}
-use Rattle.input_faults.specs.StateFaults.{faults_in}
-use Rattle.input_faults.proofs.states.add_meter_faults.Given as goal
+use Rattle.input_check.specs.StateFaults.{faults_in}
+use Rattle.input_check.proofs.state_faults.add_meter_faults.Given as goal
 
 abbrev pub invariant-lines : goal.invariant-lines
 invariant-lines l =

@@ -1,7 +1,7 @@
 //! Every faulty line of a roster.
 ghost use Rattle.std.specs.Prelude.{◌≡◌, ◌∷◌, ◌++◌, [], IfOk, MatchResult};
 ghost use Rattle.roster_file.specs.Roster.{enlisted_from};
-ghost use Rattle.input_faults.specs.RosterFaults.{before, faults_in, faults_owned, faults_headed, faults_of, FirstFaultRefuses};
+ghost use Rattle.input_check.specs.RosterFaults.{before, faults_in, faults_owned, faults_headed, faults_of, FirstFaultRefuses};
 
 use outer_io::Memory;
 use roster_file::{

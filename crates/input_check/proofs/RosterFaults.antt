@@ -11,7 +11,7 @@ use Rattle.roster_file.specs.declared.roster.LineCause.TheVariants as causes
 use Rattle.roster_file.specs.declared.roster.RosterFault.{RosterFault}
 use Rattle.roster_file.specs.declared.roster.RosterFault.TheVariants.{Line}
 use Rattle.roster_file.specs.Roster.{at_line, enlisted_from, meters_of, with_own, owned, headed, own_of, head_of, entries_from, roster_of}
-use Rattle.input_faults.specs.RosterFaults.{refused, before, going_on, faults_in, faults_owned, faults_headed, faults_of, first_of}
+use Rattle.input_check.specs.RosterFaults.{refused, before, going_on, faults_in, faults_owned, faults_headed, faults_of, first_of}
 
 first_in : (version : Version) (meters : List Commissioned) (entries : List (ℕ × List ℕ))
     → first_of (faults_in version meters entries) ≡ refused (meters_of version meters entries)

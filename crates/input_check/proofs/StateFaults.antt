@@ -11,13 +11,13 @@ use Rattle.roster_file.specs.declared.roster.LineCause.TheVariants as roster
 use Rattle.roster_file.specs.declared.roster.RosterFault.{RosterFault}
 use Rattle.roster_file.specs.declared.roster.RosterFault.TheVariants as faulty
 use Rattle.roster_file.specs.Roster.{Enrolled, entries_from, own_of, roster_of}
-use Rattle.input_faults.specs.RosterFaults as rosters
-use Rattle.input_faults.proofs.RosterFaults.{first_fault_refuses as roster_refuses}
+use Rattle.input_check.specs.RosterFaults as rosters
+use Rattle.input_check.proofs.RosterFaults.{first_fault_refuses as roster_refuses}
 use Rattle.state_file.specs.declared.fault.StateFault.{StateFault}
 use Rattle.state_file.specs.declared.fault.StateFault.TheVariants.{Roster, Line, Memory}
 use Rattle.state_file.specs.Whole.{Known, Progress, all_of, at_line, by_fault, by_roster, ended, headed, left_by, no_meters, of_roster, owned, read_more, starts_of, state_of, with_own}
 use Rattle.state_file.specs.Reading.{IsFaultOf}
-use Rattle.input_faults.specs.StateFaults.{refused, before, going_on, behind_end, faults_in, faults_owned, faults_headed, state_faults_of, has_head, is_state, first_of}
+use Rattle.input_check.specs.StateFaults.{refused, before, going_on, behind_end, faults_in, faults_owned, faults_headed, state_faults_of, has_head, is_state, first_of}
 
 -- ---- the first one
 

@@ -1,10 +1,10 @@
 //! Every faulty line of a state.
 ghost use Rattle.std.specs.Prelude.{◌≡◌, ◌≤◌, ◌∷◌, ◌++◌, [], length, map, IfOk, OnOk};
-ghost use Rattle.input_faults.specs.RosterFaults.{faults_of};
+ghost use Rattle.input_check.specs.RosterFaults.{faults_of};
 ghost use Rattle.state_file.specs.Whole.{by_fault, no_meters};
-ghost use Rattle.input_faults.specs.StateFaults.{behind_end, faults_in, faults_owned, is_state, state_faults_of, FirstFaultRefuses, OthersAreRosters};
+ghost use Rattle.input_check.specs.StateFaults.{behind_end, faults_in, faults_owned, is_state, state_faults_of, FirstFaultRefuses, OthersAreRosters};
 
-use crate::rosters::roster_faults;
+use crate::roster_faults::roster_faults;
 use outer_io::Memory;
 use roster_file::{Entries, LineCause, RosterFault, read_own_line};
 use state_file::{FileCause, Meters, STATE_MOST, StateFault, is_end, is_head};

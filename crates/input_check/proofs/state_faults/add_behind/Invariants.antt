@@ -1,6 +1,6 @@
 use Rattle.std.proofs.Common.{◌≡◌, ◌++◌, length, map}
-use Rattle.input_faults.specs.StateFaults.{behind_end}
-use Rattle.input_faults.proofs.states.add_behind.Given as goal
+use Rattle.input_check.specs.StateFaults.{behind_end}
+use Rattle.input_check.proofs.state_faults.add_behind.Given as goal
 
 abbrev pub invariant-lines : goal.invariant-lines
 invariant-lines l = l.initial.faults.items ++ map behind_end l.initial.entries.entries ≡ l.faults.items ++ map behind_end l.entries.entries

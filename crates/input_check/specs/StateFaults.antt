@@ -4,7 +4,7 @@ use Rattle.std.specs.Str.Lines.{lines}
 use Rattle.plain_text.specs.Parts.{is_word}
 use Rattle.roster_file.specs.declared.roster.LineCause.TheVariants as roster
 use Rattle.roster_file.specs.Roster.{entries_from, own_of}
-use Rattle.input_faults.specs.RosterFaults as rosters
+use Rattle.input_check.specs.RosterFaults as rosters
 use Rattle.state_file.specs.declared.fault.FileCause.TheVariants as causes
 use Rattle.state_file.specs.declared.fault.StateFault.{StateFault}
 use Rattle.state_file.specs.declared.fault.StateFault.TheVariants.{Roster, Line}

@@ -1,6 +1,6 @@
 use Rattle.std.proofs.Common.{◌≡◌, [], ◌++◌, length}
-use Rattle.input_faults.specs.RosterFaults.{faults_in}
-use Rattle.input_faults.proofs.rosters.add_meter_faults.Given as goal
+use Rattle.input_check.specs.RosterFaults.{faults_in}
+use Rattle.input_check.proofs.roster_faults.add_meter_faults.Given as goal
 
 abbrev pub invariant-lines : goal.invariant-lines
 invariant-lines l =

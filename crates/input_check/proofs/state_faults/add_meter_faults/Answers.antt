@@ -1,9 +1,9 @@
 use Rattle.std.proofs.Common.{◌∷◌, ◌++◌, [], ap, sym, ◌∙◌, append_assoc}
 use Rattle.state_file.specs.Whole.{at_line, read_more}
-use Rattle.input_faults.specs.StateFaults.{faults_in}
-use Rattle.input_faults.proofs.StateFaults.{named, left_there}
-use Rattle.input_faults.proofs.StateLines.{lines_missing, lines_end, lines_by}
-use Rattle.input_faults.proofs.states.add_meter_faults.Goals as goal
+use Rattle.input_check.specs.StateFaults.{faults_in}
+use Rattle.input_check.proofs.StateFaults.{named, left_there}
+use Rattle.input_check.proofs.StateLines.{lines_missing, lines_end, lines_by}
+use Rattle.input_check.proofs.state_faults.add_meter_faults.Goals as goal
 
 pub returns-in-Err : goal.returns-in-Err
 returns-in-Err c =

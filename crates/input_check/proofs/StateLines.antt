@@ -6,7 +6,7 @@ use Rattle.state_file.specs.declared.fault.FileCause.TheVariants as causes
 use Rattle.state_file.specs.declared.fault.StateFault.{StateFault}
 use Rattle.state_file.specs.declared.fault.StateFault.TheVariants.{Line}
 use Rattle.state_file.specs.Whole.{Progress, at_line, left_by, read_more}
-use Rattle.input_faults.specs.StateFaults.{behind_end, faults_in, going_on}
+use Rattle.input_check.specs.StateFaults.{behind_end, faults_in, going_on}
 
 pub lines_missing : (p : Progress) (n end : ℕ) (entries : List (ℕ × List ℕ)) → entries ≡ [] → n ≡ end
     → faults_in p entries end ≡ Line n (causes.Roster roster.Missing) ∷ []

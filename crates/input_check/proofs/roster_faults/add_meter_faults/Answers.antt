@@ -1,8 +1,8 @@
 use Rattle.std.proofs.Common.{◌∷◌, ◌++◌, [], Ok, Err, ap, sym, ◌∙◌, append_assoc}
 use Rattle.std.proofs.lemmas.List.{append-nil}
-use Rattle.input_faults.specs.RosterFaults.{faults_in}
-use Rattle.input_faults.proofs.RosterFaults.{faults_by, faults_end}
-use Rattle.input_faults.proofs.rosters.add_meter_faults.Goals as goal
+use Rattle.input_check.specs.RosterFaults.{faults_in}
+use Rattle.input_check.proofs.RosterFaults.{faults_by, faults_end}
+use Rattle.input_check.proofs.roster_faults.add_meter_faults.Goals as goal
 
 pub lines-preserved-in-Continue-1 : goal.lines-preserved-in-Continue-1
 lines-preserved-in-Continue-1 c =

@@ -1,3 +1,0 @@
-pub mod RosterFaults
-pub mod StateFaults
-pub mod StateLines

@@ -1,2 +1,0 @@
-pub mod RosterFaults
-pub mod StateFaults
