@@ -94,7 +94,7 @@ pub(crate) fn note_strangers(
         IfOk result (λ strangers. Each (λ p. sort_of directory.now (told_at heard.now p.0 p.1) ≡ list) order.now) }
     ensures stray { result ≡ Err Unmade.Stray → IsOrderOfStrangers meters.now (map tells heard.now) order.now → ⊥ }
 {
-    let mut strangers = Strangers::new(alloc)?;
+    let mut strangers = Strangers::new(alloc);
     for pair in order {
         let Told::Event(address, _) = told_at(heard, pair.0, pair.1) else {
             return Err(Unmade::Stray);

@@ -9,6 +9,7 @@ pub mod PassingWorld
 pub mod Restoring
 pub mod Resuming
 pub mod Sending
+pub mod Storing
 pub mod Telling
 pub mod World
 pub mod MacLaw

@@ -1,13 +1,9 @@
 //! Telegrams that are heard again.
 use crate::judge::Verdict;
-use arrayvec::ArrayVec;
 use frame_formats::Telegram;
 use message_check::{Layers, Reason};
 use meter_address::Mode;
 use std::marker::Model;
-
-// A telegram has at most so many bytes.
-const TELEGRAM_MAX: usize = 256;
 
 /// The last telegram that alone brought a message of mode 7 which was stored. Where another receiver heard it too, it is
 /// known again by its bytes.
@@ -15,7 +11,7 @@ const TELEGRAM_MAX: usize = 256;
 pub(crate) struct LastWhole {
     // The counter of its message, none where no telegram is kept.
     counter: Option<u32>,
-    bytes: ArrayVec<u8, TELEGRAM_MAX>,
+    telegram: Telegram,
 }
 
 impl Model for LastWhole {
@@ -24,7 +20,7 @@ impl Model for LastWhole {
 
     ghost Value = { Option Known };
 
-    ghost view = { λ l. option_map (λ n. record { bytes = l.bytes.items; counter = n }) l.counter };
+    ghost view = { λ l. option_map (λ n. record { bytes = l.telegram; counter = n }) l.counter };
 }
 
 impl LastWhole {
@@ -38,7 +34,7 @@ impl LastWhole {
         ensures { result ≡ None }
     {
         LastWhole {
-            bytes: ArrayVec::new(),
+            telegram: Telegram::shortest(),
             counter: None,
         }
     }
@@ -54,9 +50,7 @@ impl LastWhole {
     fn keep(&mut self, telegram: &Telegram, counter: u32)
         ensures { self.new ≡ Some (record { bytes = telegram.now; counter = counter }) }
     {
-        self.bytes.clear();
-        let put = self.bytes.try_extend_from_slice(telegram.bytes());
-        prove!(put.is_ok());
+        self.telegram = telegram.copied();
         self.counter = Some(counter);
     }
 
@@ -64,7 +58,7 @@ impl LastWhole {
     pub(crate) fn counter_of(&self, telegram: &Telegram) -> Option<u32>
         ensures { IfSome result (λ n. self.now ≡ Some (record { bytes = telegram.now; counter = n })) }
     {
-        if self.bytes.as_slice() == telegram.bytes() {
+        if self.telegram.bytes() == telegram.bytes() {
             self.counter
         } else {
             None

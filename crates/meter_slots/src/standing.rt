@@ -1,6 +1,5 @@
 //! What the entries of a slot come to, and what an event is answered by it.
 ghost use Rattle.std.specs.Prelude.{◌≡◌, ◌++◌, ℕ, List, [], length, option_to_list, ◌≤◌, IfOk, OnErr, vec_capacity};
-ghost use Rattle.smallvec.specs.SmallVec.{HasRoomFor};
 ghost use Rattle.afl_fragments.specs.Held.{held_bytes};
 ghost use Rattle.meter_slots.specs.Journal.{reading_at, stored_in};
 ghost use Rattle.meter_slots.specs.Sending.{IsRoom};
@@ -12,7 +11,7 @@ use crate::fragments::{Fragments, held_bytes, take_place, tick};
 use crate::hearing::{has_response_control, hear, receive};
 use crate::judge::{Judge, Verdict};
 use crate::known::KnownMeter;
-use crate::reading::{Bytes, Reading, Room};
+use crate::reading::{Reading, Room};
 use crate::repeated::LastWhole;
 use crate::sent::take_room;
 use crate::start::MeterStart;
@@ -110,8 +109,7 @@ fn take_rooms(
     requires within { IfOk layers.now (λ l. l.body ≤ length telegram.now) }
     ensures held { held_by parts.new ≡ held_by parts.old }
     ensures place { IfOk result (λ _. IfOk layers.now (λ l. Admits l.afl parts.new)) }
-    ensures empty { IfOk result (λ rooms. rooms.payload.items ≡ []) }
-    ensures payload { IfOk result (λ rooms. room_for layers.now (held_by parts.new) telegram.now ≤ rooms.payload.capacity) }
+    ensures payload { IfOk result (λ rooms. room_for layers.now (held_by parts.new) telegram.now ≤ rooms.payload) }
     ensures downlink { IfOk result (λ rooms. IsRoom rooms.downlink.items (vec_capacity rooms.downlink)) }
 {
     take_place(alloc, parts, layers)?;
@@ -122,20 +120,9 @@ fn take_rooms(
     })
 }
 
-// The bytes, in room that was taken before.
-pub(crate) fn fill(mut room: Room, bytes: &[u8]) -> Room
-    requires empty { room.items ≡ [] }
-    requires fits { HasRoomFor room (length bytes.now) }
-    ensures { result.items ≡ bytes.now }
-{
-    room.extend_from_slice(bytes).unwrap();
-    room
-}
-
 // The reading of what is stored, which stands in the buffer, in room that was taken before.
 fn reading_from(at: u64, room: Room, verdict: &Verdict, message: &Scratch) -> Option<Reading>
-    requires empty { room.items ≡ [] }
-    requires within { VerdictHasRoom message.now room.capacity verdict.now }
+    requires { VerdictHasRoom message.now room verdict.now }
     ensures { option_to_list result ≡ reading_at at (stored_in (verdict_as message.now verdict.now)) }
 {
     let Ok(Some(opened)) = verdict else {
@@ -145,7 +132,7 @@ fn reading_from(at: u64, room: Room, verdict: &Verdict, message: &Scratch) -> Op
     Some(Reading {
         at,
         counter: opened.counter,
-        payload: Bytes::from_room(fill(room, payload)),
+        payload: room.fill(payload),
     })
 }
 

@@ -7,8 +7,7 @@ use crate::commands::Commands;
 use crate::directory::Directory;
 use crate::fragments::{Fragments, hold, tick};
 use crate::known::KnownMeter;
-use crate::reading::{Bytes, Reading, Room};
-use crate::standing::fill;
+use crate::reading::{Reading, Room};
 use afl_fragments::Part;
 use command_queue::Command;
 use meter_address::{Address, Commission, Mode};
@@ -113,7 +112,7 @@ impl MeterStart {
         self.reading = Some(Reading {
             at,
             counter,
-            payload: Bytes::from_room(fill(room, payload)),
+            payload: room.fill(payload),
         });
         Ok(())
     }

@@ -76,7 +76,7 @@ impl World {
         Ok(World {
             directory: directory_of(alloc, starts.as_slice())?,
             slots: fresh_slots(alloc, own, starts)?,
-            strangers: Strangers::new(alloc)?,
+            strangers: Strangers::new(alloc),
         })
     }
 

@@ -109,7 +109,7 @@ fn collect_over<R: Threads + Wait + Sync, S: Source + Send + Drop, K: Sink + Sen
 fn make_strangers(alloc: Global) -> Result<(StrangerCell, Pass<Strangers>), Memory>
     ensures { IfOk result (λ made. IsPassOf made.0 made.1 × IsFirstPass 0 made.1) }
 {
-    enclose(alloc, Strangers::new(alloc)?)
+    enclose(alloc, Strangers::new(alloc))
 }
 
 // Where each meter's slot stands.

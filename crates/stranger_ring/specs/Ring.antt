@@ -1,14 +1,17 @@
 -- The ring of strangers, and their lines as acts.
-use Rattle.std.specs.Prelude.{List, map}
-use Rattle.circular_buffer.specs.Buffer.{keep_last}
+use Rattle.std.specs.Prelude.{◌-◌, List, length, drop, map}
 use Rattle.meter_address.specs.declared.address.Address.{Address}
 use Rattle.book_cells.specs.declared.act.Act.{Act}
 use Rattle.book_cells.specs.Acts.{act}
 use Rattle.stranger_ring.specs.declared.strangers.Heard.{Heard}
 
--- the last 256 addresses, or all where there are fewer
+-- the last 256 lines, or all where there are fewer
+abbrev pub last_heard : List Heard → List Heard
+last_heard heard = drop (length heard - 256) heard
+
+-- their addresses
 unfoldable pub ring_of : List Heard → List Address
-ring_of heard = keep_last 256 (map (λ h. h.address) heard)
+ring_of heard = map (λ h. h.address) (last_heard heard)
 
 -- a stranger's line as an act
 abbrev pub note_of : Heard → Act Address Unit

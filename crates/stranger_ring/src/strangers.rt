@@ -1,5 +1,4 @@
 //! The book of strangers.
-use circular_buffer::HeapCircularBuffer;
 use meter_address::Address;
 use outer_io::Memory;
 use std::alloc::Global;
@@ -19,45 +18,35 @@ pub struct Heard {
     pub address: Address,
 }
 
-/// All lines of strangers in the order in which they came, and a ring of the last 256 addresses.
+/// All lines of strangers in the order in which they came. The ring is the addresses of their end.
 #[derive(Drop)]
 pub struct Strangers {
     heard: Vec<Heard>,
-    ring: HeapCircularBuffer<Address>,
 }
 
 impl Model for Strangers {
-    ghost use Rattle.std.specs.Prelude.{◌≡◌, List};
-    ghost use Rattle.circular_buffer.specs.Buffer.{buffer};
+    ghost use Rattle.std.specs.Prelude.{List};
     ghost use Rattle.stranger_ring.specs.declared.strangers.Heard.{Heard};
-    ghost use Rattle.stranger_ring.specs.declared.strangers.TheConstants.{RING_MAX};
-    ghost use Rattle.stranger_ring.specs.Ring.{ring_of};
 
     ghost Value = { List Heard };
 
     ghost view = { λ s. s.heard.items };
-
-    ghost invariant = { λ s. s.ring ≡ buffer (ring_of s.heard.items) RING_MAX };
 }
 
 impl Strangers {
-    ghost use Rattle.std.specs.Prelude.{◌≡◌, ◌≤◌, [], ◌∷◌, ◌++◌, length, slice_get, IfOk, OnOk, OnErr};
-    ghost use Rattle.stranger_ring.specs.Ring.{ring_of};
+    ghost use Rattle.std.specs.Prelude.{◌≡◌, ◌≤◌, [], ◌∷◌, ◌++◌, length, slice_get, option_copied, OnOk, OnErr};
+    ghost use Rattle.stranger_ring.specs.Ring.{last_heard, ring_of};
 
     /// No stranger yet.
-    pub fn new(alloc: Global) -> Result<Strangers, Memory>
-        ensures { IfOk result (λ strangers. strangers ≡ []) }
+    pub fn new(alloc: Global) -> Strangers
+        ensures { result ≡ [] }
     {
-        match HeapCircularBuffer::with_capacity(alloc, RING_MAX) {
-            Ok(ring) => Ok(Strangers {
-                heard: Vec::new(alloc),
-                ring,
-            }),
-            Err(_) => Err(Memory),
+        Strangers {
+            heard: Vec::new(alloc),
         }
     }
 
-    /// Notes a line of a stranger. Where the ring is full its oldest address is overwritten. For want of memory nothing changes.
+    /// Notes a line of a stranger. Where the ring is full its oldest address leaves it. For want of memory nothing changes.
     pub fn note(&mut self, source: u32, line: u32, address: Address) -> Result<(), Memory>
         ensures ok { OnOk result (self.new ≡ self.old ++ record { source = source; line = line; address = address } ∷ []) }
         ensures err { OnErr result (self.new ≡ self.old) }
@@ -68,7 +57,6 @@ impl Strangers {
             line,
             address,
         });
-        self.ring.push_back(address);
         Ok(())
     }
 
@@ -79,18 +67,28 @@ impl Strangers {
         self.heard.as_slice()
     }
 
+    // The line whose address stands at a place of the ring.
+    fn last_heard_at(&self, place: usize) -> Option<&Heard>
+        ensures { option_copied result ≡ slice_get (last_heard self.now) place }
+    {
+        let first = self.heard.len().saturating_sub(RING_MAX);
+        self.heard[first..].get(place)
+    }
+
     /// How many addresses the ring has: all, or 256 where there are more.
+    #[tactic(auto, using(crate::proofs::Rings::ring_length))]
     pub fn ring_len(&self) -> usize
         ensures count { result ≡ length (ring_of self.now) }
         ensures few { result ≤ 256 }
     {
-        self.ring.len()
+        self.heard.len().min(RING_MAX)
     }
 
     /// The address at a place of the ring, the oldest one first: none exactly where there is no such place.
     pub fn ring_at(&self, place: usize) -> Option<Address>
         ensures { result ≡ slice_get (ring_of self.now) place }
     {
-        self.ring.get(place).copied()
+        let heard = self.last_heard_at(place)?;
+        Some(heard.address)
     }
 }

@@ -1,4 +1,4 @@
-use Rattle.std.proofs.Common.{◌≡◌, ap, sym, ◌∙◌, map, take, arith}
+use Rattle.std.proofs.Common.{ap, ◌∙◌, map}
 use Rattle.std.proofs.lemmas.List.{take_all}
 use Rattle.meter_slots.proofs.Starting.{mapped_more}
 use Rattle.meter_slots.proofs.start.addresses_of.Goals as goal

@@ -77,9 +77,6 @@ hear-judged-requires-clause-room c = c.in_ok-rooms.ensures.place
 pub hear-outcome-requires : goal.hear-outcome-requires
 hear-outcome-requires c = c.in_ok-rooms.ensures.downlink
 
-pub reading_from-reading-requires-clause-empty : goal.reading_from-reading-requires-clause-empty
-reading_from-reading-requires-clause-empty c = c.in_ok-rooms.ensures.empty
-
 pub invariant_of-self : goal.invariant_of-self
 invariant_of-self c = c.self.invariant
 

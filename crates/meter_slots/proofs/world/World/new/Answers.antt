@@ -19,5 +19,5 @@ pub returns : goal.returns
 returns c =
     let slots = map (fresh_slot c.args.own) c.args.starts.items in
     let World : List SlotView → List Heard → WorldView = λ bs ts. record { slots = bs; strangers = ts } in
-    ap (λ bs. World bs c.in_ok-new.field-0) c.in_ok-fresh_slots.ensures ∙ ap (World slots) c.in_ok-new.ensures
+    ap (λ bs. World bs c.new.result) c.in_ok-fresh_slots.ensures ∙ ap (World slots) c.new.ensures
     ∙ world_fresh c.args.own c.args.starts.items
