@@ -20,7 +20,7 @@ pub use laws::{
 };
 pub use measures::measure_of;
 pub use moments::{Day, LongMoment, Moment, TimeOfDay};
-pub use qualifiers::{Blank, Effect, MOST_QUALIFIERS, Qualifier, QualifierName, Qualifiers};
+pub use qualifiers::{Effect, MOST_QUALIFIERS, Qualifier, QualifierName, Qualifiers};
 pub use quantities::{FullQuantity, FullUnitName, Measure};
 pub use readings::DataType;
 pub use records::{FullRecord, full_record_of};

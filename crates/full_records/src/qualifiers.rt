@@ -5,9 +5,8 @@ ghost use Rattle.full_records.specs.declared.qualifiers.VifePlace.TheVariants.{C
 ghost use Rattle.full_records.specs.Qualifiers.{first_place, kept, place_behind, qualifier_at, qualifier_in, qualifiers_from};
 
 use crate::qualifier_table::COMBINABLE;
-use arrayvec::ArrayVec;
 use record_values::UnitName;
-use std::default::MadeWith;
+use std::marker::Model;
 
 /// What a further VIFE says.
 #[derive(Clone, Copy)]
@@ -232,22 +231,34 @@ pub enum VifePlace {
 /// How many further VIFEs a record has at most (EN 13757-3, 6.4).
 pub const MOST_QUALIFIERS: usize = 10;
 
-// What stands in a place that no qualifier has.
-#[derive(Clone, Copy)]
-pub struct Blank;
-
-impl MadeWith<Blank> for Qualifier {
-    fn made_with(_: Blank) -> Self {
-        Qualifier {
-            code: 0,
-            name: QualifierName::Kept,
-            effect: Effect::Stays,
-        }
-    }
+/// The further VIFEs of a record, in their order. What stands in the array behind them counts nowhere.
+#[derive(Drop)]
+pub struct Qualifiers {
+    places: [Qualifier; MOST_QUALIFIERS],
+    count: usize,
 }
 
-/// The further VIFEs of a record, in their order.
-pub type Qualifiers = ArrayVec<Qualifier, MOST_QUALIFIERS, Blank>;
+impl Model for Qualifiers {
+    ghost use Rattle.std.specs.Prelude.{◌≤◌, List, take};
+    ghost use Rattle.full_records.specs.declared.qualifiers.Qualifier.{Qualifier};
+    ghost use Rattle.full_records.specs.declared.qualifiers.TheConstants.{MOST_QUALIFIERS};
+
+    ghost Value = { List Qualifier };
+
+    ghost view = { λ q. take q.count q.places };
+
+    ghost invariant = { λ q. q.count ≤ MOST_QUALIFIERS };
+}
+
+impl Qualifiers {
+    /// They, in their order.
+    pub fn as_slice(&self) -> &[Qualifier]
+        ensures value { result.now ≡ self.now }
+        ensures few { length self.now ≤ 10 }
+    {
+        &self.places[..self.count]
+    }
+}
 
 /// A code that has no meaning here.
 fn kept(code: u8) -> Qualifier
@@ -321,16 +332,19 @@ pub fn first_place(vif: u8) -> VifePlace
 /// What further VIFEs say, one behind another (EN 13757-3, 6.4).
 pub fn qualifiers_of(first: VifePlace, vifes: &[u8]) -> Qualifiers
     requires { length vifes.now ≤ 10 }
-    ensures { result.items ≡ qualifiers_from first vifes.now }
+    ensures { result ≡ qualifiers_from first vifes.now }
 {
-    let mut found = ArrayVec::new_in(Blank);
+    let mut found = [kept(0); MOST_QUALIFIERS];
     let mut place = first;
-    for vife in vifes {
+    for (index, vife) in vifes.iter().enumerate() {
         let code = *vife % 128;
-        found.push(qualifier_at(place, code));
+        found[index] = qualifier_at(place, code);
         place = place_behind(place, code);
     }
-    found
+    Qualifiers {
+        places: found,
+        count: vifes.len(),
+    }
 }
 
 /// The code behind which one of the combinable extension stands.

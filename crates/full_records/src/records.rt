@@ -80,7 +80,7 @@ pub fn full_record_of(bytes: &[u8], span: &RecordSpan) -> FullRecord
     ensures value { result.value ≡ full_value bytes.now span.now }
     ensures unset { result.unset ≡ full_unset bytes.now span.now }
     // Each further VIFE is named, in its order.
-    ensures qualifiers { result.qualifiers.items ≡ full_qualifiers bytes.now span.now }
+    ensures qualifiers { result.qualifiers ≡ full_qualifiers bytes.now span.now }
 {
     let measure = measure_of(bytes, span);
     let qualifiers = qualifiers_of(first_place(span.vif), further_vifes(bytes, span));
