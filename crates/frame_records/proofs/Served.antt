@@ -5,7 +5,7 @@ use Rattle.meter_address.specs.Commission.{Commissioned}
 use Rattle.frame_formats.specs.declared.format.Format.TheVariants as formats
 use Rattle.outer_io.specs.declared.failures.Memory.{Memory}
 use Rattle.ell_layer.specs.declared.access.Access.{Access}
-use Rattle.access_window.specs.Orders.{Orders}
+use Rattle.command_queue.specs.Orders.{Orders}
 use Rattle.message_check.specs.Opening.{Found}
 use Rattle.message_check.specs.declared.refusal.Reason.{Reason}
 use Rattle.meter_slots.specs.declared.entry.Entry.{Entry}

@@ -8,7 +8,7 @@ use Rattle.meter_address.specs.declared.commission.Mode.TheVariants.{Five, Seven
 use Rattle.meter_address.specs.Commission.{Commissioned}
 use Rattle.ell_layer.specs.declared.access.Access.{Access}
 use Rattle.command_queue.specs.declared.command.Command.{Command}
-use Rattle.access_window.specs.Orders.{Orders, confirmed, sent_at, after_stored}
+use Rattle.command_queue.specs.Orders.{Orders, confirmed, sent_at, after_stored}
 use Rattle.afl_fragments.specs.Held.{Told, Piece, Message, held, assembled}
 use Rattle.afl_fragments.proofs.Shortening.{held_goes_on}
 use Rattle.message_check.specs.Steps.{◌>>=◌}

@@ -5,7 +5,7 @@ use Rattle.std.proofs.lemmas.List.{reverse-append, append_assoc, append-nil}
 use Rattle.meter_address.specs.declared.address.Address.{Address}
 use Rattle.meter_address.specs.declared.commission.Mode.{Mode}
 use Rattle.meter_address.specs.declared.commission.Mode.TheVariants.{Five, Seven}
-use Rattle.access_window.specs.Orders.{Orders}
+use Rattle.command_queue.specs.Orders.{Orders}
 use Rattle.afl_fragments.specs.Held.{held}
 use Rattle.afl_fragments.specs.Short.{told_of, cut_down}
 use Rattle.afl_fragments.proofs.Shortening.{cut_holds, held_goes_on}

@@ -11,8 +11,8 @@ use Rattle.meter_address.specs.Commission.{Commissioned}
 use Rattle.ell_layer.specs.declared.access.Access.{Access}
 use Rattle.command_queue.specs.declared.command.Command.{Command}
 use Rattle.command_queue.specs.Pending.{put_answer, take_answer, is_pending}
-use Rattle.access_window.specs.Orders.{Orders, after_cancel, after_tick, confirmed, confirmed_orders, after_confirmed, sent, sent_orders}
-use Rattle.access_window.specs.Orders.{after_sent, after_stored, sent_at}
+use Rattle.command_queue.specs.Orders.{Orders, after_cancel, after_tick, confirmed, confirmed_orders, after_confirmed, sent, sent_orders}
+use Rattle.command_queue.specs.Orders.{after_sent, after_stored, sent_at}
 use Rattle.message_check.specs.Opening.{Found}
 use Rattle.message_check.specs.declared.refusal.Reason.{Reason}
 use Rattle.meter_slots.specs.declared.entry.Entry.{Entry}

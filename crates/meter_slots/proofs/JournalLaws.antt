@@ -17,8 +17,8 @@ use Rattle.command_queue.specs.declared.command.Command.{Command}
 use Rattle.command_queue.specs.declared.command.NoSuch.{NoSuch}
 use Rattle.command_queue.specs.declared.command.QueueFault.{QueueFault}
 use Rattle.command_queue.specs.Pending.{put_answer, take_answer, with_command, with_command_by}
-use Rattle.access_window.specs.Orders.{Orders, after_cancel}
-use Rattle.access_window.proofs.Agreement.{cancel_refused}
+use Rattle.command_queue.specs.Orders.{Orders, after_cancel}
+use Rattle.command_queue.proofs.Agreement.{cancel_refused}
 use Rattle.afl_fragments.specs.Held.{Message}
 use Rattle.message_check.specs.Steps.{◌>>=◌}
 use Rattle.frame_formats.specs.Crc.{IsBytes}

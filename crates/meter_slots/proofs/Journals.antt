@@ -12,7 +12,7 @@ use Rattle.meter_address.specs.declared.commission.Mode.{Mode}
 use Rattle.meter_address.specs.declared.commission.Mode.TheVariants.{Five, Seven}
 use Rattle.meter_address.specs.Commission.{Commissioned, most_last}
 use Rattle.ell_layer.specs.declared.access.Access.{Access}
-use Rattle.access_window.specs.Orders.{Orders, confirmed}
+use Rattle.command_queue.specs.Orders.{Orders, confirmed}
 use Rattle.afl_fragments.specs.Held.{Told, Message, StandsFor}
 use Rattle.message_check.specs.Steps.{◌>>=◌}
 use Rattle.message_check.specs.Opening.{Found, Passed, compared5, compared7}

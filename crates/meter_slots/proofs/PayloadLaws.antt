@@ -12,12 +12,12 @@ use Rattle.ell_layer.specs.declared.access.Access.{Access}
 use Rattle.command_queue.specs.declared.command.Command.{Command}
 use Rattle.command_queue.specs.Pending.{Pending, has_id, is_pending}
 use Rattle.command_queue.specs.Pending.{without_command, one_try_more, with_try}
-use Rattle.access_window.proofs.Agreement.{put_both}
-use Rattle.access_window.specs.declared.window.Window.{Window}
-use Rattle.access_window.specs.declared.window.Window.TheVariants.{Idle}
-use Rattle.access_window.specs.Orders.{Orders, after_put, after_cancel, window_without, queue_less, expired, after_tick, confirmed}
-use Rattle.access_window.specs.Orders.{confirmed_orders, after_confirmed}
-use Rattle.access_window.specs.Orders.{is_open, oldest_where_idle, sent, sent_orders, after_sent, sent_at, after_stored}
+use Rattle.command_queue.proofs.Agreement.{put_both}
+use Rattle.command_queue.specs.declared.window.Window.{Window}
+use Rattle.command_queue.specs.declared.window.Window.TheVariants.{Idle}
+use Rattle.command_queue.specs.Orders.{Orders, after_put, after_cancel, window_without, queue_less, expired, after_tick, confirmed}
+use Rattle.command_queue.specs.Orders.{confirmed_orders, after_confirmed}
+use Rattle.command_queue.specs.Orders.{is_open, oldest_where_idle, sent, sent_orders, after_sent, sent_at, after_stored}
 use Rattle.message_check.specs.Opening.{Found}
 use Rattle.message_check.specs.declared.refusal.Reason.{Reason}
 use Rattle.meter_slots.specs.declared.entry.Entry.{Entry}

@@ -12,7 +12,7 @@ use Rattle.meter_address.specs.Commission.{Commissioned}
 use Rattle.afl_fragments.specs.Held.{Message}
 use Rattle.message_check.specs.Steps.{◌>>=◌}
 use Rattle.ell_layer.specs.declared.access.Access.{Access}
-use Rattle.access_window.specs.Orders.{Orders}
+use Rattle.command_queue.specs.Orders.{Orders}
 use Rattle.message_check.specs.Opening.{Found, Passed, access_number_passed, counter_passed, compared5, compared7}
 use Rattle.message_check.specs.declared.refusal.Reason.{Reason}
 use Rattle.meter_slots.specs.declared.entry.Entry.{Entry}

@@ -5,9 +5,9 @@ use Rattle.std.proofs.lemmas.Bool.{leb-true, ltb-true}
 use Rattle.command_queue.specs.declared.command.Command.{Command}
 use Rattle.command_queue.specs.Pending.{Pending, IsSound, OnlyOldestTried, may_follow, with_follower}
 use Rattle.command_queue.proofs.Moves.{sound_follower}
-use Rattle.access_window.specs.declared.window.Window.{Window}
-use Rattle.access_window.specs.declared.window.Window.TheVariants.{Idle, Waiting}
-use Rattle.access_window.specs.Orders.{AgreesWith, Agrees}
+use Rattle.command_queue.specs.declared.window.Window.{Window}
+use Rattle.command_queue.specs.declared.window.Window.TheVariants.{Idle, Waiting}
+use Rattle.command_queue.specs.Orders.{AgreesWith, Agrees}
 use Rattle.meter_slots.specs.Restoring.{window_fits}
 
 waits_agrees : (cs : List Command) (c : Command) → window_fits cs c true ≡ true → OnlyOldestTried (cs ++ c ∷ [])

@@ -16,7 +16,7 @@ use Rattle.std.proofs.lemmas.Simd.{map-map}
 use Rattle.std.proofs.lemmas.List.Sums.{prefix_len_passes}
 use Rattle.meter_address.specs.declared.address.Address.{Address}
 use Rattle.meter_address.specs.declared.commission.Mode.TheVariants.{Seven}
-use Rattle.access_window.specs.declared.window.Window.TheVariants.{Idle}
+use Rattle.command_queue.specs.declared.window.Window.TheVariants.{Idle}
 use Rattle.meter_slots.specs.declared.entry.Entry.{Entry}
 use Rattle.meter_slots.specs.declared.entry.Outcome.{Outcome}
 use Rattle.meter_slots.specs.declared.step.Landed.TheVariants.{Slot, Stranger}

@@ -14,8 +14,8 @@ use Rattle.command_queue.specs.declared.command.NoSuch.{NoSuch as Missing}
 use Rattle.command_queue.specs.declared.command.QueueFault.{QueueFault}
 use Rattle.command_queue.specs.declared.command.QueueFault.TheVariants as queue
 use Rattle.command_queue.specs.Pending.{put_answer, take_answer}
-use Rattle.access_window.specs.Orders.{Orders, after_put, after_cancel, expired, after_tick, confirmed, sent_at, after_stored}
-use Rattle.access_window.specs.Moves.{fresh_orders}
+use Rattle.command_queue.specs.Orders.{Orders, after_put, after_cancel, expired, after_tick, confirmed, sent_at, after_stored}
+use Rattle.command_queue.specs.Moves.{fresh_orders}
 use Rattle.afl_fragments.specs.Held.{Told, Piece, Clear, Message}
 use Rattle.afl_fragments.specs.Held as fragments
 use Rattle.message_check.specs.Steps.{◌>>=◌}

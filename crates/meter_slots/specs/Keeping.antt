@@ -9,7 +9,7 @@ use Rattle.meter_address.specs.declared.commission.Mode.{Mode}
 use Rattle.meter_address.specs.declared.commission.Mode.TheVariants.{Seven}
 use Rattle.meter_address.specs.Commission.{Commissioned, most_last}
 use Rattle.afl_layer.specs.declared.header.Afl.{Afl}
-use Rattle.access_window.specs.Orders.{Orders}
+use Rattle.command_queue.specs.Orders.{Orders}
 use Rattle.afl_fragments.specs.declared.parts.Parts.{Parts}
 use Rattle.afl_fragments.specs.declared.places.HeldPart.{HeldPart}
 use Rattle.afl_fragments.specs.Fragment.{IsFragment}

@@ -6,7 +6,7 @@ use Rattle.meter_address.specs.declared.address.Address.{Address}
 use Rattle.meter_address.specs.Commission.{Commissioned}
 use Rattle.message_check.specs.Opening.{Found}
 use Rattle.command_queue.specs.declared.command.Command.{Command}
-use Rattle.access_window.specs.Orders.{Orders}
+use Rattle.command_queue.specs.Orders.{Orders}
 use Rattle.downlink_maker.specs.Sent.{Sent}
 use Rattle.downlink_maker.specs.Downlink.{downlink}
 use Rattle.meter_slots.specs.declared.entry.Entry.{Entry}

@@ -2,9 +2,9 @@
 use Rattle.std.specs.Prelude.{Bool, true, false, not, ◌&&◌, nat_le, nat_lt, if◌then◌else◌, List, [], ◌∷◌, ◌++◌}
 use Rattle.command_queue.specs.declared.command.Command.{Command}
 use Rattle.command_queue.specs.Pending.{may_follow}
-use Rattle.access_window.specs.declared.window.Window.{Window}
-use Rattle.access_window.specs.declared.window.Window.TheVariants.{Waiting}
-use Rattle.access_window.specs.Orders.{Orders}
+use Rattle.command_queue.specs.declared.window.Window.{Window}
+use Rattle.command_queue.specs.declared.window.Window.TheVariants.{Waiting}
+use Rattle.command_queue.specs.Orders.{Orders}
 
 -- whether the window may wait for a command behind these, or not: it waits for the oldest one alone, after one try at least, and where it
 -- doesn't the oldest one has a try left

@@ -1,15 +1,14 @@
 //! The commands of a meter: the queue, the window, and the counter of the downlinks.
 ghost use Rattle.std.specs.Prelude.{◌≡◌, ◌≤◌, Option, IfSome, is_some, option_map, length, slice_get, All};
 ghost use Rattle.command_queue.specs.declared.command.Command.{Command};
-ghost use Rattle.access_window.specs.Orders.{IsOldestAfterTry};
+ghost use Rattle.command_queue.specs.Orders.{IsOldestAfterTry};
 ghost use Rattle.meter_slots.specs.Journal.{downlink_with};
 ghost use Rattle.meter_slots.specs.Laws.{IsPayload, HasPayload, AreReady};
 
 use crate::entry::Outcome;
 use crate::hearing::Judged;
 use crate::sent::SentDownlink;
-use access_window::Window;
-use command_queue::{Command, Queue, QueueFault};
+use command_queue::{Command, Queue, QueueFault, Window};
 use downlink_maker::{Downlink, make_downlink};
 use message_check::Reason;
 use meter_address::{Address, Commission, Payload};
@@ -25,7 +24,7 @@ pub(crate) struct Commands {
 }
 
 impl Model for Commands {
-    ghost use Rattle.access_window.specs.Orders.{Orders, orders_of, Agrees};
+    ghost use Rattle.command_queue.specs.Orders.{Orders, orders_of, Agrees};
 
     ghost Value = { Orders };
 
@@ -84,8 +83,8 @@ fn show_payloads(queue: &Queue)
 impl Commands {
     ghost use Rattle.std.specs.Prelude.{◌≡◌, ℕ, List, option_map, vec_capacity};
     ghost use Rattle.command_queue.specs.Pending.{IsSound, put_answer, take_answer};
-    ghost use Rattle.access_window.specs.Orders.{Agrees, after_put, after_cancel, expired, after_tick};
-    ghost use Rattle.access_window.specs.Moves.{fresh_orders};
+    ghost use Rattle.command_queue.specs.Orders.{Agrees, after_put, after_cancel, expired, after_tick};
+    ghost use Rattle.command_queue.specs.Moves.{fresh_orders};
     ghost use Rattle.meter_slots.specs.Journal.{heard, queued, cancelled, orders_heard, stored_counter};
     ghost use Rattle.meter_slots.specs.Keeping.{verdict_as, stored_by};
     ghost use Rattle.meter_slots.specs.Sending.{IsRoom};
@@ -166,7 +165,7 @@ impl Commands {
     }
 
     // A command with this payload is to be sent.
-    #[tactic(auto, using(access_window::proofs::Agreement::agrees_put))]
+    #[tactic(auto, using(command_queue::proofs::Agreement::agrees_put))]
     pub(crate) fn put(&mut self, payload: &Payload) -> Outcome
         ensures outcome { result ≡ queued (put_answer self.old.queue) }
         ensures after { self.new ≡ after_put self.old payload.now }

@@ -2,9 +2,8 @@
 use crate::commands::Commands;
 use crate::fragments::{Fragments, part_at, part_count};
 use crate::reading::Reading;
-use access_window::Window;
+use command_queue::{Queue, Window};
 use afl_fragments::HeldPart;
-use command_queue::Queue;
 use meter_address::Commission;
 use std::marker::Model;
 
@@ -43,7 +42,7 @@ impl<'a> Model for KnownMeter<'a> {
 
 impl<'a> KnownMeter<'a> {
     ghost use Rattle.std.specs.Prelude.{◌≡◌, ◌≤◌, IfSome, length, slice_get, option_copied};
-    ghost use Rattle.access_window.specs.Orders.{Agrees};
+    ghost use Rattle.command_queue.specs.Orders.{Agrees};
     ghost use Rattle.command_queue.specs.Pending.{IsSound};
     ghost use Rattle.afl_fragments.specs.Held.{held};
     ghost use Rattle.afl_fragments.specs.Short.{cut_down};

@@ -7,7 +7,7 @@ use Rattle.meter_address.specs.declared.address.Address.{Address}
 use Rattle.meter_address.specs.Address.{bytes_of}
 use Rattle.meter_address.specs.Letters.{letters_of}
 use Rattle.command_queue.specs.declared.command.Command.{Command}
-use Rattle.access_window.specs.Orders.{Orders}
+use Rattle.command_queue.specs.Orders.{Orders}
 use Rattle.stranger_ring.specs.declared.strangers.Heard.{Heard}
 use Rattle.stranger_ring.specs.Ring.{ring_of}
 use Rattle.meter_slots.specs.declared.counts.Counts.{Counts}

@@ -5,9 +5,9 @@ use Rattle.std.proofs.lemmas.List.{append-nil}
 use Rattle.lists.specs.Each.{Each}
 use Rattle.command_queue.specs.declared.command.Command.{Command}
 use Rattle.command_queue.specs.Pending.{IdsRise, AreUntried, OnlyOldestTried, IsSound, newest_id, most_tries, may_follow}
-use Rattle.access_window.specs.declared.window.Window.{Window}
-use Rattle.access_window.specs.declared.window.Window.TheVariants.{Idle, Waiting}
-use Rattle.access_window.specs.Orders.{AgreesWith}
+use Rattle.command_queue.specs.declared.window.Window.{Window}
+use Rattle.command_queue.specs.declared.window.Window.TheVariants.{Idle, Waiting}
+use Rattle.command_queue.specs.Orders.{AgreesWith}
 use Rattle.meter_slots.specs.Journal.{Start}
 use Rattle.meter_slots.specs.Restoring.{window_fits, may_restore, with_restored, restored}
 use Rattle.state_file.specs.declared.cause.StateCause.TheVariants as causes

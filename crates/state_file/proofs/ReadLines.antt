@@ -29,7 +29,7 @@ use Rattle.meter_slots.specs.declared.reading.Reading.{Reading}
 use Rattle.meter_slots.specs.Journal.{Start}
 use Rattle.meter_slots.specs.Restoring.{window_fits, window_for, may_restore, with_restored, restored}
 use Rattle.meter_slots.proofs.Restorings.{agrees_waiting, agrees_still}
-use Rattle.access_window.specs.Orders.{Orders, Agrees}
+use Rattle.command_queue.specs.Orders.{Orders, Agrees}
 use Rattle.state_file.specs.declared.cause.StateCause.TheVariants as causes
 use Rattle.state_file.specs.State.{bytes_in, payload_in, reading_of, with_reading_in, fragment_with, fragment_of, fragment_in, part_of, with_part, with_part_in, with_tick, command_bytes, command_of, with_command, with_command_in, with_fields, with_line}
 use Rattle.state_file.specs.Text.{spelt, IsSpeltReading, IsSpeltPart, IsSpeltMark, IsSpeltCommand}

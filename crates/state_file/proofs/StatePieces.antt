@@ -16,8 +16,8 @@ use Rattle.afl_fragments.specs.Short.{pieces, ticked, told_of, cut_down}
 use Rattle.afl_fragments.specs.Places.{is_fresh, no_held}
 use Rattle.afl_fragments.specs.declared.places.HeldPart.{HeldPart}
 use Rattle.command_queue.specs.declared.command.Command.{Command}
-use Rattle.access_window.specs.declared.window.Window.{Window}
-use Rattle.access_window.specs.declared.window.Window.TheVariants.{Idle, Waiting}
+use Rattle.command_queue.specs.declared.window.Window.{Window}
+use Rattle.command_queue.specs.declared.window.Window.TheVariants.{Idle, Waiting}
 use Rattle.meter_slots.specs.declared.reading.Reading.{Reading}
 use Rattle.meter_slots.specs.Journal.{Start, commission_of}
 use Rattle.roster_file.specs.Text.{meter_text}

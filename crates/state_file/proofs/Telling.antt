@@ -17,7 +17,7 @@ use Rattle.afl_fragments.specs.Places.{is_fresh}
 use Rattle.afl_fragments.specs.declared.places.HeldPart.{HeldPart}
 use Rattle.command_queue.specs.declared.command.Command.{Command}
 use Rattle.command_queue.specs.Pending.{IsSound, AreUntried, OnlyOldestTried}
-use Rattle.access_window.specs.Orders.{Agrees}
+use Rattle.command_queue.specs.Orders.{Agrees}
 use Rattle.meter_address.specs.Commission.{IsCommission}
 use Rattle.meter_slots.specs.Journal.{Start, commission_of}
 use Rattle.state_file.specs.Text.{IsSpeltReading, IsSpeltPart, IsSpeltMark, IsSpeltCommand}

@@ -16,8 +16,8 @@ use Rattle.meter_address.specs.Address.{text_of}
 use Rattle.meter_address.specs.Commission.{Commissioned}
 use Rattle.afl_fragments.specs.Held.{Told, Piece, Tick, Clear}
 use Rattle.command_queue.specs.declared.command.Command.{Command}
-use Rattle.access_window.specs.declared.window.Window.{Window}
-use Rattle.access_window.specs.declared.window.Window.TheVariants.{Idle, Waiting}
+use Rattle.command_queue.specs.declared.window.Window.{Window}
+use Rattle.command_queue.specs.declared.window.Window.TheVariants.{Idle, Waiting}
 use Rattle.meter_slots.specs.declared.reading.Reading.{Reading}
 use Rattle.meter_slots.specs.Journal.{Start, commission_of}
 use Rattle.roster_file.specs.declared.fields.Version.TheVariants.{Two}

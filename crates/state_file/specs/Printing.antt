@@ -8,8 +8,8 @@ use Rattle.afl_fragments.specs.Held.{Piece}
 use Rattle.afl_fragments.specs.Places.{is_fresh}
 use Rattle.afl_fragments.specs.declared.places.HeldPart.{HeldPart}
 use Rattle.command_queue.specs.declared.command.Command.{Command}
-use Rattle.access_window.specs.declared.window.Window.{Window}
-use Rattle.access_window.specs.declared.window.Window.TheVariants.{Idle, Waiting}
+use Rattle.command_queue.specs.declared.window.Window.{Window}
+use Rattle.command_queue.specs.declared.window.Window.TheVariants.{Idle, Waiting}
 use Rattle.meter_slots.specs.declared.reading.Reading.{Reading}
 use Rattle.state_file.specs.Text.{line_with, bytes_text, reading_line, reading_lines, mark_line, command_fields, commands_lines}
 use Rattle.state_file.specs.Written.{ended_text}

@@ -11,10 +11,10 @@ use Rattle.afl_fragments.specs.Held.{Told, Piece, Tick, Clear}
 use Rattle.afl_fragments.specs.Short.{cut_down}
 use Rattle.command_queue.specs.declared.command.Command.{Command}
 use Rattle.command_queue.specs.Pending.{IsSound}
-use Rattle.access_window.specs.declared.window.Window.{Window}
-use Rattle.access_window.specs.declared.window.Window.TheVariants.{Idle, Waiting}
-use Rattle.access_window.specs.Orders.{Agrees}
-use Rattle.access_window.specs.Moves.{fresh_orders}
+use Rattle.command_queue.specs.declared.window.Window.{Window}
+use Rattle.command_queue.specs.declared.window.Window.TheVariants.{Idle, Waiting}
+use Rattle.command_queue.specs.Orders.{Agrees}
+use Rattle.command_queue.specs.Moves.{fresh_orders}
 use Rattle.meter_slots.specs.declared.reading.Reading.{Reading}
 use Rattle.meter_slots.specs.Journal.{Start}
 use Rattle.state_file.specs.State.{with_lines}

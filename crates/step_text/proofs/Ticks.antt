@@ -1,9 +1,9 @@
 -- A tick changes nothing where none is due.
 use Rattle.std.proofs.Common.{◌≡◌, ℕ, List, [], ◌∷◌, length, None, refl, sym, ap, ap₂, ◌∙◌, arith}
 use Rattle.command_queue.specs.Pending.{Pending}
-use Rattle.access_window.specs.declared.window.Window.{Window}
-use Rattle.access_window.specs.declared.window.Window.TheVariants.{Idle, Waiting}
-use Rattle.access_window.specs.Orders.{Orders, orders_of, awaited_id, expired, after_tick}
+use Rattle.command_queue.specs.declared.window.Window.{Window}
+use Rattle.command_queue.specs.declared.window.Window.TheVariants.{Idle, Waiting}
+use Rattle.command_queue.specs.Orders.{Orders, orders_of, awaited_id, expired, after_tick}
 use Rattle.afl_fragments.specs.declared.places.HeldPart.{HeldPart}
 use Rattle.afl_fragments.specs.Held.{Told, Tick, held}
 use Rattle.afl_fragments.specs.Places.{aged}

@@ -8,7 +8,7 @@ use Rattle.meter_address.specs.declared.address.Address.{Address}
 use Rattle.meter_address.specs.Address.{text_of}
 use Rattle.frame_formats.specs.declared.fault.FrameFault.{FrameFault}
 use Rattle.line_reader.specs.declared.line.BadLine.{BadLine}
-use Rattle.access_window.specs.Orders.{awaited_id}
+use Rattle.command_queue.specs.Orders.{awaited_id}
 use Rattle.afl_fragments.specs.Held.{held}
 use Rattle.downlink_maker.specs.Sent.{Sent}
 use Rattle.record_text.specs.Lines.{fault_text}

@@ -1,7 +1,7 @@
 use Rattle.std.proofs.Common.{ap, sym, ◌∙◌}
 use Rattle.paper.proofs.Items.{is_put}
 use Rattle.command_queue.specs.Pending.{Pending}
-use Rattle.access_window.specs.declared.window.Window.{Window}
+use Rattle.command_queue.specs.declared.window.Window.{Window}
 use Rattle.meter_slots.specs.Journal.{Start}
 use Rattle.state_file.specs.Recommissioning.{recommissioned}
 use Rattle.state_file.specs.Printing.{readings_text, commands_text}

@@ -1,6 +1,6 @@
 use Rattle.std.proofs.Common.{subst, ◌∙◌, ap}
 use Rattle.std.specs.Prelude.{IfSome}
-use Rattle.access_window.specs.Orders.{awaited_id}
+use Rattle.command_queue.specs.Orders.{awaited_id}
 use Rattle.step_text.specs.Numbers.{IsSmall}
 use Rattle.step_text.proofs.ShownLines.{block_back}
 use Rattle.step_text.proofs.block.put_block_line.Goals as goal

@@ -4,7 +4,7 @@ use Rattle.json.specs.Print.{escape_byte, escape}
 use Rattle.serde_json.specs.Data.{string}
 use Rattle.serde_json.specs.Written.{compact_text}
 use Rattle.paper.proofs.Items.{is_put}
-use Rattle.access_window.specs.Orders.{awaited_id}
+use Rattle.command_queue.specs.Orders.{awaited_id}
 use Rattle.meter_address.specs.Address.{text_of}
 use Rattle.report_text.specs.Readings.{or_null, members}
 use Rattle.report_text.proofs.MembersPut.{no_more, and_known, and_member, and_text, object_put}

@@ -1,5 +1,5 @@
 use Rattle.std.proofs.Common.{refl, ap, sym, ◌∙◌}
-use Rattle.access_window.specs.Orders.{Orders}
+use Rattle.command_queue.specs.Orders.{Orders}
 use Rattle.meter_slots.specs.Restoring.{window_fits}
 use Rattle.meter_slots.proofs.Restorings.{agrees_waiting, agrees_still}
 use Rattle.meter_slots.proofs.commands.Commands.restore.Goals as goal

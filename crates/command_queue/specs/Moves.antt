@@ -2,8 +2,8 @@
 use Rattle.std.specs.Prelude.{ℕ, List, [], ◌∷◌, Option, Some, None, Bool}
 use Rattle.command_queue.specs.declared.command.Command.{Command}
 use Rattle.ell_layer.specs.declared.access.Access.{Access}
-use Rattle.access_window.specs.declared.window.Window.TheVariants.{Idle}
-use Rattle.access_window.specs.Orders.{Orders, orders_of, after_put, after_cancel, after_tick, sent_at, after_stored}
+use Rattle.command_queue.specs.declared.window.Window.TheVariants.{Idle}
+use Rattle.command_queue.specs.Orders.{Orders, orders_of, after_put, after_cancel, after_tick, sent_at, after_stored}
 
 -- a command is put, one is cancelled, a tick, or a message of the meter is stored
 pub data Move : Type 0 where

@@ -1,8 +1,9 @@
 //! The window in which a meter listens.
 ghost use Rattle.std.specs.Prelude.{◌≡◌};
-ghost use Rattle.access_window.specs.Orders.{is_open};
+ghost use Rattle.command_queue.specs.Orders.{is_open};
 
-use command_queue::{Command, NoSuch, Queue};
+use crate::command::{Command, NoSuch};
+use crate::queue::Queue;
 use ell_layer::Access;
 
 /// Whether a command was sent and waits for the meter's response.
@@ -26,8 +27,8 @@ pub struct Moved {
 impl Window {
     ghost use Rattle.std.specs.Prelude.{ℕ, ◌≢◌, ◌↔◌, Err, is_some, IfSome, OnErr, All};
     ghost use Rattle.command_queue.specs.Pending.{take_answer, no_such};
-    ghost use Rattle.access_window.specs.Orders.{orders_of, Agrees, window_without, after_cancel, expired, after_tick};
-    ghost use Rattle.access_window.specs.Orders.{confirmed, after_confirmed, sent, after_sent, sent_at, after_stored, IsOldestAfterTry};
+    ghost use Rattle.command_queue.specs.Orders.{orders_of, Agrees, window_without, after_cancel, expired, after_tick};
+    ghost use Rattle.command_queue.specs.Orders.{confirmed, after_confirmed, sent, after_sent, sent_at, after_stored, IsOldestAfterTry};
 
     /// A message of the meter was stored, with this access. `response` says whether its C field is that of a response (RSP-UD of
     /// EN 13757-4): this confirms the command for which the window waits, and removes it. Then, while the window is idle, the

@@ -1,6 +1,6 @@
 -- The awaited command is there to be taken, and an idle window agrees with what is left.
-use Rattle.access_window.proofs.Agreement.{closed, awaited_taken}
-use Rattle.access_window.proofs.window.Window.tick.Goals as goal
+use Rattle.command_queue.proofs.Agreement.{closed, awaited_taken}
+use Rattle.command_queue.proofs.window.Window.confirm.Goals as goal
 
 pub prove-unreachable-requires : goal.prove-unreachable-requires
 prove-unreachable-requires c = cc (awaited_taken _ _ _ _ c.in-Waiting.is c.requires c.take.ensures.answer)

@@ -1,6 +1,6 @@
 -- The three clauses of what is sent over time.
-use Rattle.access_window.proofs.Time.{fresh_sends, three_tries}
-use Rattle.access_window.proofs.laws.sent_over_time.Goals as goal
+use Rattle.command_queue.proofs.Time.{fresh_sends, three_tries}
+use Rattle.command_queue.proofs.window_laws.sent_over_time.Goals as goal
 
 pub returns-clause-counters : goal.returns-clause-counters
 returns-clause-counters c = λ ids down moves. (fresh_sends ids down moves).counters

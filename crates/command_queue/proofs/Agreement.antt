@@ -10,10 +10,10 @@ use Rattle.command_queue.specs.Pending.{Pending, AreUntried, OnlyOldestTried, Is
 use Rattle.command_queue.specs.Pending.{without_command, with_try, with_command, with_command_by, put_answer}
 use Rattle.command_queue.proofs.Moves.{without, untried_without}
 use Rattle.ell_layer.specs.declared.access.Access.{Access}
-use Rattle.access_window.specs.declared.window.Window.{Window}
-use Rattle.access_window.specs.declared.window.Window.TheVariants.{Idle, Waiting}
-use Rattle.access_window.specs.Orders.{Orders, orders_of, AgreesWith, Agrees, window_without, after_cancel, is_open, oldest_where_idle}
-use Rattle.access_window.specs.Orders.{sent, sent_orders, after_sent, IsOldestAfterTry}
+use Rattle.command_queue.specs.declared.window.Window.{Window}
+use Rattle.command_queue.specs.declared.window.Window.TheVariants.{Idle, Waiting}
+use Rattle.command_queue.specs.Orders.{Orders, orders_of, AgreesWith, Agrees, window_without, after_cancel, is_open, oldest_where_idle}
+use Rattle.command_queue.specs.Orders.{sent, sent_orders, after_sent, IsOldestAfterTry}
 
 -- ---- a command less
 

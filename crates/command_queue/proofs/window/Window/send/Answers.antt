@@ -1,9 +1,9 @@
 -- The window agrees with the queue when the oldest command was sent.
 use Rattle.std.proofs.Common.{subst, sym}
-use Rattle.access_window.specs.declared.window.Window.TheVariants.{Waiting}
-use Rattle.access_window.specs.Orders.{Agrees}
-use Rattle.access_window.proofs.Agreement.{agrees_sent}
-use Rattle.access_window.proofs.window.Window.send.Goals as goal
+use Rattle.command_queue.specs.declared.window.Window.TheVariants.{Waiting}
+use Rattle.command_queue.specs.Orders.{Agrees}
+use Rattle.command_queue.proofs.Agreement.{agrees_sent}
+use Rattle.command_queue.proofs.window.Window.send.Goals as goal
 
 pub returns-clause-agrees : goal.returns-clause-agrees
 returns-clause-agrees c =

@@ -1,8 +1,8 @@
 use Rattle.std.proofs.Common.{ap, sym, subst, ◌∙◌}
 use Rattle.std.specs.Prelude.{IfSome}
-use Rattle.access_window.specs.Orders.{Orders, orders_of, sent_at, after_confirmed, after_sent, IsOldestAfterTry}
-use Rattle.access_window.proofs.Agreement.{sent_first}
-use Rattle.access_window.proofs.window.Window.uplink.Goals as goal
+use Rattle.command_queue.specs.Orders.{Orders, orders_of, sent_at, after_confirmed, after_sent, IsOldestAfterTry}
+use Rattle.command_queue.proofs.Agreement.{sent_first}
+use Rattle.command_queue.proofs.window.Window.uplink.Goals as goal
 
 pub returns-clause-oldest : goal.returns-clause-oldest
 returns-clause-oldest c =

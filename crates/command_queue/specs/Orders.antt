@@ -5,8 +5,8 @@ use Rattle.command_queue.specs.declared.command.Command.{Command}
 use Rattle.command_queue.specs.Pending.{Pending, has_id, is_pending, with_command, without_command, with_try}
 use Rattle.ell_layer.specs.declared.access.Access.{Access}
 use Rattle.ell_layer.specs.declared.access.Access.TheVariants as access
-use Rattle.access_window.specs.declared.window.Window.{Window}
-use Rattle.access_window.specs.declared.window.Window.TheVariants.{Idle, Waiting}
+use Rattle.command_queue.specs.declared.window.Window.{Window}
+use Rattle.command_queue.specs.declared.window.Window.TheVariants.{Idle, Waiting}
 
 -- the commands that wait, the command for which the window is open, and the last counter of a downlink
 pub record Orders : Type 0 where

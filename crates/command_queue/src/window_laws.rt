@@ -2,9 +2,9 @@
 ghost use Rattle.std.specs.Prelude.{◌≡◌, ℕ, ◌+◌, ◌^◌, ◌<◌, ◌≤◌, ◌==◌, List, length, map, count_by};
 ghost use Rattle.std.specs.List.{range_with_len};
 ghost use Rattle.command_queue.specs.Pending.{Pending, IsSound, with_command, without_command};
-ghost use Rattle.access_window.specs.declared.window.Window.{Window};
-ghost use Rattle.access_window.specs.Orders.{Agrees, window_without};
-ghost use Rattle.access_window.specs.Moves.{Move, fresh_orders, all_sent};
+ghost use Rattle.command_queue.specs.declared.window.Window.{Window};
+ghost use Rattle.command_queue.specs.Orders.{Agrees, window_without};
+ghost use Rattle.command_queue.specs.Moves.{Move, fresh_orders, all_sent};
 
 /// The window and the queue go on agreeing where a command is put, and where one is taken and then cancelled.
 #[tactic(auto, using(crate::proofs::Agreement::agrees_put, crate::proofs::Agreement::agrees_cancelled))]

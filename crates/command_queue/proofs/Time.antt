@@ -9,14 +9,14 @@ use Rattle.std.proofs.lemmas.List.Sums.{length-filter}
 use Rattle.command_queue.specs.declared.command.Command.{Command}
 use Rattle.command_queue.specs.Pending.{Pending, IsSound, has_id, is_pending, without_command, with_try}
 use Rattle.command_queue.proofs.Moves.{without, sound_put, sound_without}
-use Rattle.access_window.specs.declared.window.Window.{Window}
-use Rattle.access_window.specs.declared.window.Window.TheVariants.{Idle, Waiting}
-use Rattle.access_window.specs.Orders.{Orders, orders_of, Agrees, window_without, after_put, after_cancel, awaited_in, spent_id}
-use Rattle.access_window.specs.Orders.{expired, queue_less, after_tick, awaited_id, confirmed, confirmed_orders, after_confirmed, is_open}
-use Rattle.access_window.specs.Orders.{oldest_where_idle, sent, sent_orders, after_sent}
-use Rattle.access_window.specs.Moves.{Move, fresh_orders, after, sent_by, SentCommand, with_sent, all_sent}
-use Rattle.access_window.specs.Moves.{Put, Cancel, Tick, Store}
-use Rattle.access_window.proofs.Agreement.{put_both, push_agrees, agrees_cancelled, agrees_closed}
+use Rattle.command_queue.specs.declared.window.Window.{Window}
+use Rattle.command_queue.specs.declared.window.Window.TheVariants.{Idle, Waiting}
+use Rattle.command_queue.specs.Orders.{Orders, orders_of, Agrees, window_without, after_put, after_cancel, awaited_in, spent_id}
+use Rattle.command_queue.specs.Orders.{expired, queue_less, after_tick, awaited_id, confirmed, confirmed_orders, after_confirmed, is_open}
+use Rattle.command_queue.specs.Orders.{oldest_where_idle, sent, sent_orders, after_sent}
+use Rattle.command_queue.specs.Moves.{Move, fresh_orders, after, sent_by, SentCommand, with_sent, all_sent}
+use Rattle.command_queue.specs.Moves.{Put, Cancel, Tick, Store}
+use Rattle.command_queue.proofs.Agreement.{put_both, push_agrees, agrees_cancelled, agrees_closed}
 
 -- a sound queue and a window that agree
 record IsSteady (k : Orders) : Type 0 where

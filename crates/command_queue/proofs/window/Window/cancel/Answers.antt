@@ -1,7 +1,7 @@
 use Rattle.std.proofs.Common.{sym, ap, ◌∙◌}
-use Rattle.access_window.specs.Orders.{orders_of}
-use Rattle.access_window.proofs.Agreement.{agrees_cancelled, cancel_refused, cancel_taken}
-use Rattle.access_window.proofs.window.Window.cancel.Goals as goal
+use Rattle.command_queue.specs.Orders.{orders_of}
+use Rattle.command_queue.proofs.Agreement.{agrees_cancelled, cancel_refused, cancel_taken}
+use Rattle.command_queue.proofs.window.Window.cancel.Goals as goal
 
 pub returns-in_err-command-clause-after : goal.returns-in_err-command-clause-after
 returns-in_err-command-clause-after c = λ down.
