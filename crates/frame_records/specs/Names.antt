@@ -3,7 +3,7 @@ use Rattle.std.specs.Prelude.{ℕ, ◌==◌, ◌||◌, nat_lt, Bool, List, [], �
 use Rattle.paper.specs.Pieces.{labelled, labelled_bytes}
 use Rattle.plain_text.specs.Parts.{is_word}
 use Rattle.dif_vif.specs.declared.span.RecordSpan.{RecordSpan}
-use Rattle.unit_text.specs.Words.{function_text}
+use Rattle.record_text.specs.Words.{function_text}
 use Rattle.full_records.specs.declared.quantities.FullQuantity.{FullQuantity}
 use Rattle.full_records.specs.declared.quantities.FullUnitName.{FullUnitName}
 use Rattle.full_records.specs.declared.qualifiers.Qualifier.{Qualifier}

@@ -8,7 +8,7 @@ use dif_vif::RecordSpan;
 use full_records::{FullQuantity, FullUnitName, Qualifier};
 use full_text::{full_quantity_word, full_unit_word, put_qualifiers};
 use paper::{Paper, put_labelled, put_labelled_bytes, put_text};
-use unit_text::function_word;
+use record_text::function_word;
 
 #[tactic(auto, unfolding(crate::specs::Names::spaced), using(paper::proofs::Calls::two_make))]
 fn put_spaced<P: Paper>(paper: &mut P, word: &str)

@@ -1,6 +1,6 @@
 -- The words of quantities, units, qualifiers and types of data.
 use Rattle.std.specs.Prelude.{List, codes, ℕ}
-use Rattle.unit_text.specs.Words as profile
+use Rattle.record_text.specs.Words as profile
 use Rattle.full_records.specs.declared.quantities.FullQuantity.{FullQuantity}
 use Rattle.full_records.specs.declared.quantities.FullQuantity.TheVariants as quantities
 use Rattle.full_records.specs.declared.quantities.FullUnitName.{FullUnitName}

@@ -4,7 +4,7 @@ ghost use Rattle.std.specs.Prelude.{◌≡◌};
 ghost use Rattle.full_text.specs.Words.{full_quantity_text, full_unit_text, qualifier_text, type_text};
 
 use full_records::{DataType, FullQuantity, FullUnitName, QualifierName};
-use unit_text::{name_word, quantity_word};
+use record_text::{name_word, quantity_word};
 
 /// The word of a quantity: the profile's where the profile names it.
 pub fn full_quantity_word(quantity: FullQuantity) -> &'static str

@@ -14,7 +14,7 @@ use Rattle.dif_vif.specs.Reading.{next_of}
 use Rattle.record_values.specs.declared.units.Quantity.{Quantity}
 use Rattle.record_values.specs.declared.units.Quantity.TheVariants as profile
 use Rattle.record_values.specs.Units.{unit}
-use Rattle.unit_text.specs.Words.{function_text, quantity_text}
+use Rattle.record_text.specs.Words.{function_text, quantity_text}
 use Rattle.record_text.specs.Lines.{bytes_at}
 use Rattle.full_records.specs.declared.quantities.FullQuantity.{FullQuantity}
 use Rattle.full_records.specs.declared.quantities.FullQuantity.TheVariants as quantities

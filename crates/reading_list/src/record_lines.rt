@@ -21,9 +21,8 @@ use full_text::{
 use meter_address::Address;
 use meter_label::{Label, put_label};
 use paper::{Paper, put_hex, put_labelled, put_labelled_bytes, put_text};
-use record_text::bytes_at;
+use record_text::{bytes_at, function_word, quantity_word};
 use record_values::{Quantity, unit_of};
-use unit_text::{function_word, quantity_word};
 
 #[tactic(auto, using(paper::proofs::Calls::none))]
 fn put_label_if<P: Paper>(paper: &mut P, label: Option<Label>)

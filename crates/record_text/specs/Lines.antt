@@ -8,8 +8,8 @@ use Rattle.record_values.specs.declared.units.Unit.{Unit}
 use Rattle.record_values.specs.declared.values.Value.{Value}
 use Rattle.record_values.specs.Units.{unit}
 use Rattle.record_values.specs.Values.{value}
-use Rattle.unit_text.specs.Words.{function_text}
-use Rattle.unit_text.specs.Pieces.{register_text, unit_text}
+use Rattle.record_text.specs.Words.{function_text}
+use Rattle.record_text.specs.Pieces.{register_text, unit_text}
 use Rattle.record_text.specs.Values.{hex_text, value_text}
 
 -- so many bytes from a place on

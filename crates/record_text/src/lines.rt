@@ -10,7 +10,8 @@ use crate::value_text::{put_bytes, put_value};
 use dif_vif::{RecordFault, RecordSpan};
 use paper::{Paper, put_labelled, put_labelled_bytes, put_text};
 use record_values::{Unit, Value, unit_of, value_of};
-use unit_text::{function_word, put_register, put_unit};
+use crate::pieces::{put_register, put_unit};
+use crate::words::function_word;
 
 /// So many bytes from a place on, or those of them that there are.
 pub fn bytes_at(bytes: &[u8], place: usize, count: usize) -> &[u8]

@@ -12,7 +12,7 @@ use Rattle.record_values.specs.Units.{unit}
 use Rattle.record_values.specs.Values.{value}
 use Rattle.record_text.specs.Lines.{bytes_at, place_text, data_text, record_line, maker_line, span_line, fault_text, fault_line}
 use Rattle.record_text.specs.RecordText.{more_text, next_text, listed, records_text}
-use Rattle.unit_text.specs.Pieces.{register_text, unit_text}
+use Rattle.record_text.specs.Pieces.{register_text, unit_text}
 use Rattle.report_text.proofs.LineWalks.{IsWithout, ◌⌢◌, literal, Others, no_others, ◌⨟◌, one_other}
 use Rattle.paper.specs.Pieces.{labelled_bytes}
 use Rattle.report_text.proofs.LinePieces.{hex_or_dash, worded_bytes, pieces}

@@ -21,7 +21,7 @@ use Rattle.record_values.specs.declared.values.Value.{Value}
 use Rattle.record_values.specs.declared.values.Value.TheVariants as values
 use Rattle.record_text.specs.Lines.{fault_text}
 use Rattle.record_text.specs.Values.{two_digits, four_digits, day_text, time_text, marked, value_text}
-use Rattle.unit_text.specs.Words.{function_text, quantity_text, name_text}
+use Rattle.record_text.specs.Words.{function_text, quantity_text, name_text}
 use Rattle.report_text.specs.Readings.{NamesByte}
 use Rattle.report_text.proofs.LineWalks.{Passing, ◌⌢◌, literal, IsWithout, differs}
 use Rattle.report_text.proofs.LinePieces.{decimal_passes, hex_passes}

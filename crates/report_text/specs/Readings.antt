@@ -19,7 +19,7 @@ use Rattle.record_values.specs.declared.units.Unit.{Unit}
 use Rattle.record_values.specs.declared.values.Value.{Value}
 use Rattle.record_values.specs.Units.{unit}
 use Rattle.record_values.specs.Values.{value}
-use Rattle.unit_text.specs.Words.{function_text, quantity_text, name_text}
+use Rattle.record_text.specs.Words.{function_text, quantity_text, name_text}
 use Rattle.record_text.specs.Lines.{bytes_at, fault_text}
 use Rattle.record_text.specs.Values.{value_text}
 use Rattle.meter_slots.specs.declared.reading.Reading.{Reading}

@@ -14,9 +14,8 @@ ghost use Rattle.report_text.specs.Readings.{listed, members, list_tree, or_null
 use crate::listing::MOST;
 use dif_vif::{RecordFault, RecordSpan, next_record};
 use paper::{Paper, put_hex, put_number, put_signed, put_text};
-use record_text::{bytes_at, put_fault_words, put_value};
+use record_text::{bytes_at, function_word, name_word, put_fault_words, put_value, quantity_word};
 use record_values::{Unit, Value, unit_of, value_of};
-use unit_text::{function_word, name_word, quantity_word};
 
 /// Puts bytes in hexadecimal, as they stand inside a string of JSON.
 pub fn put_digits<P: Paper>(paper: &mut P, bytes: &[u8])

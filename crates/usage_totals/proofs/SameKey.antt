@@ -11,7 +11,7 @@ use Rattle.record_values.specs.declared.units.Quantity.{Quantity}
 use Rattle.record_values.specs.declared.units.UnitName.{UnitName}
 use Rattle.record_values.specs.contracts.units.Quantity as quantities
 use Rattle.record_values.specs.contracts.units.UnitName as units
-use Rattle.unit_text.specs.Words.{quantity_text, name_text}
+use Rattle.record_text.specs.Words.{quantity_text, name_text}
 use Rattle.usage_totals.specs.declared.key.UsageKey.{UsageKey}
 use Rattle.usage_totals.specs.Keys.{key_cmp}
 

@@ -5,7 +5,7 @@ use Rattle.std.specs.Fmt.{signed_decimal}
 use Rattle.paper.specs.Pieces.{labelled, text_if}
 use Rattle.meter_address.specs.declared.address.Address.{Address}
 use Rattle.meter_address.specs.Address.{text_of}
-use Rattle.unit_text.specs.Pieces.{register_text, unit_text}
+use Rattle.record_text.specs.Pieces.{register_text, unit_text}
 use Rattle.usage_totals.specs.declared.key.UsageKey.{UsageKey}
 use Rattle.usage_totals.specs.declared.sums.Sum.{Sum}
 use Rattle.usage_totals.specs.declared.fault.TotalsFault.{TotalsFault}

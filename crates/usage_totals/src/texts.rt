@@ -14,7 +14,7 @@ use crate::fault::TotalsFault;
 use crate::key::UsageKey;
 use crate::totals::Totals;
 use paper::{Paper, put_hex, put_labelled, put_signed, put_text};
-use unit_text::{put_register, put_unit};
+use record_text::{put_register, put_unit};
 
 /// The meter that an answer names, if answers do.
 pub(crate) fn named_if(addressed: bool, address: Address) -> Option<Address>

@@ -1,7 +1,7 @@
 //! The register and the unit of a record, as text.
 
 ghost use Rattle.paper.specs.Puts.{Puts};
-ghost use Rattle.unit_text.specs.Pieces.{register_text, unit_text};
+ghost use Rattle.record_text.specs.Pieces.{register_text, unit_text};
 
 use crate::words::{name_word, quantity_word};
 use paper::{Paper, put_labelled, put_signed, put_text};

@@ -4,7 +4,7 @@ use Rattle.std.specs.Fmt.{signed_decimal}
 use Rattle.paper.specs.Pieces.{labelled}
 use Rattle.record_values.specs.declared.units.Quantity.{Quantity}
 use Rattle.record_values.specs.declared.units.UnitName.{UnitName}
-use Rattle.unit_text.specs.Words.{quantity_text, name_text}
+use Rattle.record_text.specs.Words.{quantity_text, name_text}
 
 -- what the DIF and its extensions say: the storage number, the tariff and the subunit
 unfoldable pub register_text : ℕ → ℕ → ℕ → List ℕ

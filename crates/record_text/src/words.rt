@@ -1,7 +1,7 @@
 //! The words of quantities, units and functions.
 
 ghost use Rattle.std.specs.Prelude.{◌≡◌};
-ghost use Rattle.unit_text.specs.Words.{function_text, quantity_text, name_text};
+ghost use Rattle.record_text.specs.Words.{function_text, quantity_text, name_text};
 
 use record_values::{Quantity, UnitName};
 
