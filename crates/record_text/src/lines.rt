@@ -6,12 +6,12 @@ ghost use Rattle.dif_vif.specs.Spans.{IsSpanOf};
 ghost use Rattle.record_text.specs.Lines.{bytes_at, place_text, measure_text, data_text};
 ghost use Rattle.record_text.specs.Lines.{record_line, maker_line, span_line, fault_text, fault_line};
 
+use crate::pieces::{put_register, put_unit};
 use crate::value_text::{put_bytes, put_value};
+use crate::words::function_word;
 use dif_vif::{RecordFault, RecordSpan};
 use paper::{Paper, put_labelled, put_labelled_bytes, put_text};
 use record_values::{Unit, Value, unit_of, value_of};
-use crate::pieces::{put_register, put_unit};
-use crate::words::function_word;
 
 /// So many bytes from a place on, or those of them that there are.
 pub fn bytes_at(bytes: &[u8], place: usize, count: usize) -> &[u8]
