@@ -9,9 +9,9 @@ use Rattle.frame_inspect_main.specs.Run.{Run, IsRun, IsCausedBy, bytes_of, inspe
 use Rattle.frame_inspect_main.specs.Statuses.{code_of, shows_lines}
 use Rattle.frame_inspect_main.specs.Words.{workers_of}
 use Rattle.line_teller.specs.declared.ending.LinesEnd.TheVariants as ends
-use Rattle.frame_records.specs.declared.status.RecordsStatus.{RecordsStatus}
-use Rattle.frame_records.specs.declared.status.RecordsStatus.TheVariants as shown
-use Rattle.frame_records.specs.Statuses as records
+use Rattle.frame_inspect.specs.declared.status.RecordsStatus.{RecordsStatus}
+use Rattle.frame_inspect.specs.declared.status.RecordsStatus.TheVariants as shown
+use Rattle.frame_inspect.specs.Statuses as records
 use Rattle.frame_inspect.specs.Exit.{IsRunExit, IsRecordsExit, names_records}
 
 exit_of : (status : InspectStatus) → (status ≡ statuses.Words → ⊥) → IsRunExit (code_of status)

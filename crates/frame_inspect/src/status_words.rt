@@ -1,5 +1,5 @@
 //! What is said of a run with records.
-use frame_records::RecordsStatus;
+use crate::status::RecordsStatus;
 use state_file::roster_word;
 use std::fmt;
 

@@ -25,11 +25,11 @@ mod state_faults;
 mod states;
 mod status;
 
-use crate::inputs::check_inputs;
-use crate::states::Stop;
+use inputs::check_inputs;
 use line_reader::Lines;
 use outer_io::{Sink, Source, StdSink, StdSource};
 use program_words::{NoWords, OwnText, command_words, open_to_read, own_text, tell};
+use states::Stop;
 use status::CheckStatus;
 use std::fs::{File, Files};
 use std::process::ExitCode;

@@ -3,11 +3,11 @@ ghost use Rattle.std.specs.Prelude.{◌≡◌};
 ghost use Rattle.paper.specs.Puts.{Puts};
 
 use crate::delivery::read_delivery;
+use crate::senders::Senders;
 use crate::texts::put_answer;
 use line_teller::{Sheet, Teller};
 use outer_io::Memory;
 use paper::put_text;
-use crate::senders::Senders;
 use std::alloc::Global;
 use std::marker::Model;
 

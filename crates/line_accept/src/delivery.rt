@@ -2,9 +2,9 @@
 ghost use Rattle.std.specs.Prelude.{◌≡◌, ◌<◌, ◌^◌, option_map};
 ghost use Rattle.line_accept.specs.Deliveries.{message_with, message_in, delivery_in, delivery_of};
 
+use crate::fence::Numbered;
 use crate::names::is_name;
 use plain_text::{Fields, read_number};
-use crate::fence::Numbered;
 
 /// The most bytes of a line that delivers anything, without its end: a name, an epoch and a number, with a space between each two.
 pub const LINE_MAX: usize = 96;

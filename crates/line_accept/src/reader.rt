@@ -6,12 +6,12 @@ ghost use Rattle.line_accept.specs.SendersFile.{sender_in, sender_of, with_line,
 ghost use Rattle.line_accept.specs.Reading.{sender_read, IsFaultOf};
 
 use crate::fault::{SendersCause, SendersFault};
+use crate::fence::Fence;
 use crate::names::is_name;
+use crate::senders::Senders;
 use outer_io::Memory;
 use plain_text::{Fields, read_number};
 use roster_file::{Entries, Entry};
-use crate::fence::Fence;
-use crate::senders::Senders;
 use std::alloc::Global;
 
 /// The most bytes of a text of senders.

@@ -7,13 +7,13 @@ ghost use Rattle.line_accept.specs.Run.{Answers, IsAnswered, IsRefused, IsRun};
 use crate::accepting::Accepting;
 use crate::fault::{SendersCause, SendersFault};
 use crate::reader::{SENDERS_MOST, read_senders};
+use crate::senders::Senders;
 use crate::status::AcceptStatus;
 use crate::texts::Moved;
 use line_reader::TextReader;
 use line_teller::tell_lines;
 use outer_io::{ReadError, Sink, Source, StdSink, read_all};
 use paper::write;
-use crate::senders::Senders;
 use std::alloc::Global;
 
 // The senders of all bytes that a source has left, or the status that says why there are none.

@@ -3,9 +3,9 @@ ghost use Rattle.std.specs.Prelude.{◌≡◌, option_map, option_copied};
 ghost use Rattle.paper.specs.Puts.{Puts};
 ghost use Rattle.line_accept.specs.Answers.{numbers_text, ask_text, answer_text, sender_text, is_fence, moved_line, moved_both, moved_at};
 
-use paper::{Paper, Printed, put_number, put_text};
 use crate::fence::{Answer, Asked, Fence};
 use crate::senders::Senders;
+use paper::{Paper, Printed, put_number, put_text};
 
 #[tactic(auto, unfolding(crate::specs::Answers::numbers_text), using(paper::proofs::Calls::four_make))]
 fn put_numbers<P: Paper>(paper: &mut P, epoch: u64, number: u64)

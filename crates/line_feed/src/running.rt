@@ -7,13 +7,13 @@ ghost use Rattle.line_feed.specs.Feeding.{Fed};
 ghost use Rattle.line_feed.specs.Run.{IsRun, end_notes};
 
 use crate::clock::Clock;
+use crate::cutting::{Unfit, cut_half_line};
 use crate::feed::Feed;
+use crate::line_file::LineFile;
 use crate::lines::LINE_MAX;
 use crate::notes::EndingNote;
 use crate::printings::Printing;
 use crate::status::FeedStatus;
-use crate::cutting::{Unfit, cut_half_line};
-use crate::line_file::LineFile;
 use crate::streaming::tell_stream;
 use line_teller::LinesEnd;
 use outer_io::{Sink, Source};

@@ -1,6 +1,6 @@
 //! What a status means, in words.
-use crate::status::FeedStatus;
 use crate::cutting::Unfit;
+use crate::status::FeedStatus;
 use std::fmt;
 
 /// A status, said in words.

@@ -2,8 +2,8 @@
 use crate::commands::Commands;
 use crate::fragments::{Fragments, part_at, part_count};
 use crate::reading::Reading;
-use command_queue::{Queue, Window};
 use afl_fragments::HeldPart;
+use command_queue::{Queue, Window};
 use meter_address::Commission;
 use std::marker::Model;
 

@@ -10,8 +10,8 @@ ghost use Rattle.state_file.specs.Written.{block_text, state_text};
 ghost use Rattle.state_file.specs.Printing.{reading_text, readings_text, payload_text, part_text, kind_if, some_kind, kind_text, has_kind, marks_text, tick_text, said_text, command_text, command_if, window_word, word_at, commands_text};
 
 use crate::state::State;
-use command_queue::{Command, Queue, Window};
 use afl_fragments::{HeldPart, Part, SPELT_MAX};
+use command_queue::{Command, Queue, Window};
 use meter_address::Commission;
 use meter_slots::{KnownMeter, MeterStart, Reading};
 use outer_io::Memory;

@@ -5,12 +5,12 @@ ghost use Rattle.usage_totals.specs.Requests.{edits, usages, totals, edit_read, 
 ghost use Rattle.usage_totals.specs.Texts.{meter_of};
 ghost use Rattle.usage_totals.specs.Answering.{DoesEdit, Settles, PutsAnswer};
 
+use crate::fault::TotalsFault;
 use crate::request::{EditRead, RequestRead, Unread, read_request};
 use crate::texts::{named_if, put_edit_answer, put_totals_answer, put_usages_answer};
+use crate::totals::Totals;
 use line_teller::{Sheet, Teller};
 use meter_address::Address;
-use crate::fault::TotalsFault;
-use crate::totals::Totals;
 use outer_io::Memory;
 use paper::{Paper, put_text};
 use std::alloc::Global;

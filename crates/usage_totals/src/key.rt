@@ -4,9 +4,9 @@ ghost use Rattle.std.specs.Prelude.{Some, refl};
 ghost use Rattle.std.specs.Ordering.{eq_by_cmp};
 ghost use Rattle.std.specs.Cmp.{eq_by_cmp_equiv, partial_equiv_from_equiv, po};
 
+use record_text::{name_word, quantity_word};
 use record_values::{Quantity, UnitName};
 use std::cmp::Ordering;
-use record_text::{name_word, quantity_word};
 
 /// What an amount is of: two amounts count together where all of these are the same.
 #[derive(Clone, Copy)]

@@ -8,9 +8,9 @@ ghost use Rattle.usage_totals.specs.Run.{IsRun};
 use crate::answer::Answerer;
 use crate::asked::totals_asked;
 use crate::status::TotalsStatus;
+use crate::totals::Totals;
 use line_reader::TextReader;
 use line_teller::tell_one_by_one;
-use crate::totals::Totals;
 use outer_io::{Sink, Source, StdSink};
 use std::alloc::Global;
 

@@ -9,10 +9,10 @@ ghost use Rattle.usage_totals.specs.Table.{rows_at};
 ghost use Rattle.usage_totals.specs.Texts.{named_if, address_text, done_text, refusal_text, edit_text, key_text};
 ghost use Rattle.usage_totals.specs.Texts.{usage_line, total_line, usages_kept, totals_kept};
 
-use meter_address::Address;
 use crate::fault::TotalsFault;
 use crate::key::UsageKey;
 use crate::totals::Totals;
+use meter_address::Address;
 use paper::{Paper, put_hex, put_labelled, put_signed, put_text};
 use record_text::{put_register, put_unit};
 
