@@ -2,7 +2,7 @@ use Rattle.std.proofs.Common.{sym, subst, ap, ◌∙◌}
 use Rattle.usage_totals.specs.Edits.{addition, replacement}
 use Rattle.usage_totals.specs.Requests.{edit_read}
 use Rattle.usage_totals.specs.Answering.{DoesEdit}
-use Rattle.usage_totals.proofs.Edits.{edit_settled}
+use Rattle.usage_totals.proofs.SettledEdits.{edit_settled}
 use Rattle.usage_totals.proofs.answer.do_edit.Goals as goal
 
 pub returns-in-Add : goal.returns-in-Add
