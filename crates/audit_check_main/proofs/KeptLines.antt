@@ -43,6 +43,9 @@ all-longer : (bytes more : List ℕ) (ls : List KeptLine) → Each (IsKept bytes
 all-longer bytes more [] h = refl
 all-longer bytes more (line ∷ ls) h = (λ i. told-longer bytes more line h.0 i ∷ all-longer bytes more ls h.1 i)
 
+pub each-still : (bytes more : List ℕ) (ls : List KeptLine) → Each (IsKept bytes) ls → Each (IsKept (bytes ++ more)) ls
+each-still bytes more ls before = each_map (IsKept bytes) (IsKept (bytes ++ more)) (kept-longer bytes more) ls before
+
 -- ---- a number in front of a line's bytes
 
 number-in-front : (width number : ℕ) (room : List ℕ) → take width (big_bytes width number ++ room) ≡ big_bytes width number

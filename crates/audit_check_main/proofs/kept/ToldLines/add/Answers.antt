@@ -2,8 +2,17 @@ use Rattle.std.proofs.Common.{◌≡◌, ◌++◌, ◌∷◌, ◌∙◌, ◌+◌
 use Rattle.lists.specs.Each.{Each}
 use Rattle.audit_check_main.specs.declared.kept.KeptLine.{KeptLine}
 use Rattle.audit_check_main.specs.Kept.{told_again, told_kept, IsKept}
-use Rattle.audit_check_main.proofs.KeptLines.{number-put, each-next, told-next}
+use Rattle.audit_check_main.proofs.KeptLines.{number-put, each-still, each-next, told-next}
 use Rattle.audit_check_main.proofs.kept.ToldLines.add.Goals as goal
+
+pub invariant_of-self-in_err-push : goal.invariant_of-self-in_err-push
+invariant_of-self-in_err-push c =
+    let width = c.width_of-width in
+    let written = number-put width.result c.args.number c.self.inside.bytes.items c.args.bytes.now _ _ _ _ c.write_uint.ensures
+    c.in_ok-extend_from_slice.ensures.items c.in_ok-extend_from_slice-2.ensures.items in
+    subst (λ bytes. Each (IsKept bytes) c.push.new.self.items) (sym written)
+    (subst (Each (IsKept _)) (sym c.in_err-push.ensures.items)
+    (each-still c.self.inside.bytes.items _ c.self.inside.lines.items c.self.invariant))
 
 pub invariant_of-self-2 : goal.invariant_of-self-2
 invariant_of-self-2 c =
