@@ -162,7 +162,7 @@ taken_all numbers order taken n e so = subst (λ o. HaveTaken numbers o taken) (
 
 -- no pair yet
 pub none_taken : (numbers : ℕ → List ℕ) (n : ℕ) (taken : List ℕ) → taken ≡ replicate n 0 → HaveTaken numbers [] taken
-none_taken numbers n taken e = subst (HaveTaken numbers []) (sym e) (record { first_ones = firsts; within = λ w. none w; })
+none_taken numbers n taken e = subst (HaveTaken numbers []) (sym e) (record { first_ones = firsts; within = λ w. none w })
   where
     zeros : (k v : ℕ) → get_or {A = ℕ} (replicate k 0) v 0 ≡ 0
     zeros zero v = refl
