@@ -1,13 +1,19 @@
 -- What was kept of some lines tells the same when more bytes stand behind theirs.
-use Rattle.std.proofs.Common.{◌≡◌, ℕ, ◌+◌, ◌≤◌, ◌<◌, ◌^◌, List, [], ◌∷◌, ◌++◌, map, length, take, drop, refl, sym, ap, ap₂, ◌∙◌, subst}
+use Rattle.std.proofs.Common.{◌≡◌, ℕ, ◌+◌, ◌≤◌, ◌<◌, ◌^◌, List, [], ◌∷◌, ◌++◌, map, length, take, drop, refl, sym, ap, ap₂, ◌∙◌, subst, ◌⊎◌, inl, inr}
 use Rattle.std.proofs.Common.{arith, length-append, append_assoc}
 use Rattle.std.proofs.lemmas.List.{take-append-le, drop-append-le, length-drop, map-append}
 use Rattle.std.proofs.Math.Seq.{drop-append_seam, take-length, take-append_seam}
+use Rattle.message_check.specs.Target.{target_of}
+use Rattle.meter_address.specs.declared.address.Address.{Address}
 use Rattle.byteorder.specs.Endian.{big_bytes}
 use Rattle.byteorder.specs.Numbers.{big_number-reads_back, length-bytes_high_first}
 use Rattle.lists.specs.Each.{Each}
 use Rattle.lists.proofs.Members.{each_map, each_push}
+use Rattle.audit_check_main.specs.declared.kept.Kind.{Kind}
+use Rattle.audit_check_main.specs.declared.kept.Kind.TheVariants as kinds
 use Rattle.audit_check_main.specs.declared.kept.KeptLine.{KeptLine}
+use Rattle.audit_check_main.specs.declared.whose.Whose.TheVariants as whose
+use Rattle.audit_check_main.specs.Hearing.{whose_told}
 use Rattle.audit_check_main.specs.Kept.{FitsKind, part_of, bytes_in, told_again, told_in, told_kept, IsKept}
 
 -- ---- parts of bytes, and more bytes
@@ -95,3 +101,11 @@ module _ (bytes more : List ℕ) (number : ℕ) (ls : List KeptLine) (line : Kep
       ∙ ap₂ (λ before told. before ++ told ∷ []) (all-longer bytes part ls before)
       (ap (told_in line) (part-last bytes part line.start line.len begins part-long)
       ∙ ap₂ (told_again line.kind) (big_number-reads_back line.width number more narrow) (bytes-behind line.width number more))
+
+-- whose line a telegram is, in either format
+pub whose_heard : (kind : Kind) (number : ℕ) (bytes : List ℕ) (meter : Address) → meter ≡ target_of bytes
+    → (kind ≡ kinds.HearA) ⊎ (kind ≡ kinds.HearB) → whose.Meter meter ≡ whose_told (told_again kind number bytes)
+whose_heard kind number bytes meter e (inl a) =
+    subst (λ k. whose.Meter meter ≡ whose_told (told_again k number bytes)) (sym a) (ap whose.Meter e)
+whose_heard kind number bytes meter e (inr b) =
+    subst (λ k. whose.Meter meter ≡ whose_told (told_again k number bytes)) (sym b) (ap whose.Meter e)

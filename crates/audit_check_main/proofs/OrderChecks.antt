@@ -1,5 +1,5 @@
 -- A list that is checked pair by pair.
-use Rattle.std.proofs.Common.{◌≡◌, ◌==◌, ℕ, zero, suc, ◌+◌, ◌<◌, ◌≤◌, not, Bool, true, false, cond, List, [], ◌∷◌, ◌++◌, map, filter, length, take, drop, get_or, set, Option, Some, None, Result, Ok, IfSome, refl, sym, ap, ◌∙◌, subst, arith, append_assoc, append-nil, length-append}
+use Rattle.std.proofs.Common.{◌≡◌, ◌==◌, ℕ, zero, suc, ◌+◌, ◌<◌, ◌≤◌, not, Bool, true, false, cond, List, [], ◌∷◌, ◌++◌, map, filter, length, take, drop, get_or, set, replicate, Option, Some, None, Result, Ok, IfSome, refl, sym, ap, ◌∙◌, subst, arith, append_assoc, append-nil, length-append}
 use Rattle.std.specs.List.{slice_get}
 use Rattle.std.specs.Option.{option_eq}
 use Rattle.std.proofs.lemmas.Bool.{eq-eqb, eqb-true, ne_eqb, not-false}
@@ -159,6 +159,31 @@ wrong_end numbers order taken so misses = record {
 pub taken_all : (numbers : ℕ → List ℕ) (order : List (ℕ × ℕ)) (taken : List ℕ) (n : ℕ) → n ≡ length order
     → HaveTaken numbers (take n order) taken → HaveTaken numbers order taken
 taken_all numbers order taken n e so = subst (λ o. HaveTaken numbers o taken) (ap (λ k. take k order) e ∙ take-length order) so
+
+-- no pair yet
+pub none_taken : (numbers : ℕ → List ℕ) (n : ℕ) (taken : List ℕ) → taken ≡ replicate n 0 → HaveTaken numbers [] taken
+none_taken numbers n taken e = subst (HaveTaken numbers []) (sym e) (record { first_ones = firsts; within = λ w. none w })
+  where
+    zeros : (k v : ℕ) → get_or {A = ℕ} (replicate k 0) v 0 ≡ 0
+    zeros zero v = refl
+    zeros (suc k) zero = refl
+    zeros (suc k) (suc v) = zeros k v
+
+    firsts : (w : ℕ) → [] ≡ take (taken_of (replicate n 0) w) (numbers w)
+    firsts zero = refl
+    firsts (suc v) = ap (λ k. take k (numbers (suc v))) (sym (zeros n v))
+
+    none : (w : ℕ) → taken_of (replicate n 0) w ≤ length (numbers w)
+    none zero = omega arith
+    none (suc v) = let z = zeros n v in omega arith
+
+-- the pair at the next place
+pub taken_there : (numbers : ℕ → List ℕ) (order : List (ℕ × ℕ)) (taken : List ℕ) (place : ℕ) (pair : ℕ × ℕ) → place < length order
+    → pair ≡ get_or order place (0, 0) → HaveTaken numbers (take place order ++ pair ∷ []) taken
+    → HaveTaken numbers (take (place + 1) order) taken
+taken_there numbers order taken place pair inside is so =
+    subst (λ o. HaveTaken numbers o taken)
+    (sym (take_more order place (0, 0) inside ∙ ap (λ p. take place order ++ p ∷ []) (sym is))) so
 
 -- ---- tests of the code
 
