@@ -3,6 +3,7 @@
 WMBUS_FUZZ_SEED and WMBUS_FUZZ_COUNT draw other requests, and more of them; a failure names seed and request."""
 from __future__ import annotations
 
+import errno
 import os
 import random
 import re
@@ -181,6 +182,9 @@ def test_what_is_no_request(page: PageHouse) -> None:
                         given += piece
                 except (BrokenPipeError, ConnectionResetError):
                     pass
+                except OSError as fault:
+                    # (the same, seen by this end's last word)
+                    assert fault.errno == errno.ENOTCONN, told
             assert not given or re.match(rb"HTTP/1\.[01] (200|303|4[0-9][0-9]|50[15]) ", given), (told, given[:300])
             assert b"Traceback" not in given and TOKEN.encode() not in given, told
         assert page.addresses[0].encode() in given
