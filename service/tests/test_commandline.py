@@ -12,6 +12,7 @@ import socket
 import sqlite3
 import subprocess
 import sys
+import threading
 import time
 from collections.abc import Iterator
 from contextlib import closing, redirect_stderr, redirect_stdout, suppress
@@ -23,11 +24,13 @@ import pytest
 from wmbus_service import backup, config, exporting, meters, schema, service, store
 from wmbus_service.backup import raise_counters
 from wmbus_service.commandline import main
+from wmbus_service.commands import put_key
 from wmbus_service.config import Config, Programs, has_steps, read_config, unproved_words
 from wmbus_service.meters import add_meter, set_own
 from wmbus_service.receiving import spooled_bytes
 from wmbus_service.service import Service
 from wmbus_service.store import open_store, prepare_folder
+from wmbus_service.trouble import Trouble
 
 from .kill import PYTHON, TOP, Child, program
 from .meters import line_of, payload_of
@@ -219,6 +222,10 @@ def test_a_meter_that_counts_anew(place: Place) -> None:
         assert "one that it never had" in place.fault("correct", ADDRESS, "--anew", given=key)
     place.hear(spoken(3, KEY) + spoken(4, "e" * 32))
     assert counters() == [900]
+    # (behind it this one would be the second key of the new electronics)
+    place.said("rekey", ADDRESS, given="b" * 32)
+    ident = re.findall(r"a second key of it, (\S+), still waits for a session", place.fault("correct", ADDRESS, "--anew", given="E" * 32))[0]
+    assert place.said("command", "--cancel", ident)
     assert place.said("correct", ADDRESS, "--anew", given="E" * 32) == f"meter {ADDRESS} has another key, and counts anew\n"
     assert not json.loads(place.said("status", "--json"))["refusals"]
     place.hear(spoken(5, "e" * 32) + spoken(901, KEY) + spoken(6, "e" * 32) + spoken(5, "e" * 32))
@@ -229,6 +236,30 @@ def test_a_meter_that_counts_anew(place: Place) -> None:
         for key in (KEY.upper(), "c" * 32, "d" * 32):
             assert "it had this key before" in place.fault(*words, given=key)
     place.said("correct", ADDRESS, given="f" * 32)
+
+
+def test_a_second_key_while_a_meter_begins_to_count_anew(place: Place) -> None:
+    """Two people at once: the second key is judged by all keys that the meter had before it counted anew, and these stay noted."""
+    place.said("add", ADDRESS, "--own", OWN, given=KEY)
+    said: list[str] = []
+
+    def rekey() -> None:
+        with closing(open_store(place.folder / "wmbus/wmbus.db")) as database:
+            try:
+                put_key(database, "key", ADDRESS, KEY, time.time())
+            except Trouble as trouble:
+                said.append(str(trouble))
+    other = threading.Thread(target=rekey)
+
+    def judge(*_words: object) -> None:
+        other.start()
+        other.join(0.5)
+    with closing(open_store(place.folder / "wmbus/wmbus.db")) as database, place.patches.context() as patches:
+        patches.setattr(meters, "judge_roster", judge)
+        meters.correct_key(read_config(place.config), database, ADDRESS, "e" * 32, None, True)
+    other.join()
+    assert len(said) == 1 and "it had this key before" in said[0]
+    assert "it had this key before" in place.fault("rekey", ADDRESS, given=KEY)
 
 
 def test_numbers_of_the_mode_before() -> None:

@@ -24,12 +24,15 @@ def put_command(database: sqlite3.Connection, ident: str, address: str, payload:
 def put_key(database: sqlite3.Connection, ident: str, address: str, key: str, now: float) -> bool:
     """Takes a meter's new second key; whether its id is new."""
     key, place, address = key_of(f"command {ident}", key), f"meter {address}", address.lower()
-    told, row = store.setting(database, keys_name(address)), database.execute("select block from meter where address = ?", (address,)).fetchone()
-    judge_former(told, key, place)
-    if row:
-        # (the second key that it has may be replaced)
-        store.set_setting(database, keys_name(address), with_noted(told, row[0]))
-    return _put(database, ident, address, "rekey", key, now)
+    # (who has the meter count anew meanwhile is done before, and this key judged by what was noted then)
+    with transaction(database):
+        told = store.setting(database, keys_name(address))
+        row = database.execute("select block from meter where address = ?", (address,)).fetchone()
+        judge_former(told, key, place)
+        if row:
+            # (the second key that it has may be replaced)
+            store.set_setting(database, keys_name(address), with_noted(told, row[0]))
+        return _put(database, ident, address, "rekey", key, now)
 
 
 def payload_of(ident: str, payload: str) -> str:

@@ -225,6 +225,14 @@ def counted_anew(told: str, block: str, key: str, place: object) -> tuple[str, s
     return json.dumps({"former": [*noted["former"], *noted["since"]], "since": []}), f"{' '.join(fields)}\n{rest}"
 
 
+def judge_waiting_key(idents: Sequence[str], program: str, place: object) -> None:
+    """A second key that no session took yet, where a meter is to count anew: it is one of the electronics of before, and what they sent under
+    it could come again."""
+    if idents:
+        raise Trouble(place, f"a second key of it, {idents[0]}, still waits for a session",
+                      f"try again behind that session, or `{program} command --cancel {idents[0]}`")
+
+
 def _noted(told: str | None) -> dict[str, list[str]]:
     found: dict[str, list[str]] = json.loads(told) if told else {"former": [], "since": []}
     return found
@@ -245,6 +253,8 @@ def correct_key(config: Config, database: sqlite3.Connection, address: str, key:
         told = with_noted(store.setting(database, keys_name(address)), block)
         judge_former(told, key, place)
         if is_anew:
+            waiting = database.execute("select id from command where address = ? and kind = 'rekey' and state = 'waiting'", (address,))
+            judge_waiting_key([ident for (ident,) in waiting], "wmbus-service", place)
             told, block = counted_anew(told, block, key, place)
         store.set_setting(database, keys_name(address), told)
         block = with_mode(block, mode, place) if mode else block

@@ -3,6 +3,7 @@ from __future__ import annotations
 
 import re
 import subprocess
+import threading
 import time
 import tracemalloc
 from collections.abc import Iterator
@@ -20,6 +21,7 @@ from wmbus_fleet.messages import lines_body
 from wmbus_fleet.own_servers import RABBIT
 from wmbus_fleet.status import figures, in_words
 from wmbus_fleet.view.app import create_app
+from wmbus_service import meters
 from wmbus_service.trouble import Trouble
 
 from .test_parts import DAY, NOW, Fleet, fleet
@@ -166,6 +168,11 @@ def test_a_meter_that_counts_anew(fleet: Fleet, desk: Desk) -> None:
     for known in (before, f"{'c' * 32}\n", f"{'d' * 32}\n"):
         status, told = desk.say("correct", meter.name, "--anew", given=known)
         assert status == 1 and "one that it never had" in told
+    # (behind it this one would be the second key of the new electronics)
+    ident = desk.say("rekey", meter.name, given=f"{'b' * 32}\n")[1]
+    status, told = desk.say("correct", meter.name, "--anew", given=after)
+    assert status == 1 and f"a second key of it, {ident}, still waits for a session" in told
+    assert desk.say("command", "--cancel", ident) == (0, f"{ident}: cancelled")
     assert desk.say("correct", meter.name, "--anew", given=after) == (0, f"meter {meter.name} has another key, and counts anew")
     assert store.one(fleet.database, "select count(*) from refusal") == 0
     for spoken, number in ((exchanged, 5), (meter, 901), (exchanged, 6), (exchanged, 5)):
@@ -175,6 +182,31 @@ def test_a_meter_that_counts_anew(fleet: Fleet, desk: Desk) -> None:
         status, told = desk.say(*words, given=before)
         assert status == 1 and "it had this key before" in told
     assert desk.say("correct", meter.name, given=f"{'f' * 32}\n")[0] == 0
+
+
+def test_a_second_key_while_a_meter_begins_to_count_anew(fleet: Fleet, monkeypatch: pytest.MonkeyPatch) -> None:
+    """Two people at once: the second key is judged by all keys that the meter had before it counted anew, and these stay noted."""
+    meter = fleet.meters[1]
+    said: list[str] = []
+
+    def rekey() -> None:
+        with store.connect(fleet.config.database) as database:
+            try:
+                commands.put_key(database, "key", meter.name, meter.key.hex(), NOW)
+            except Trouble as trouble:
+                said.append(str(trouble))
+    other = threading.Thread(target=rekey)
+
+    def with_key(*words: Any) -> str:
+        other.start()
+        other.join(0.5)
+        return meters.with_key(*words)
+    monkeypatch.setattr(commands, "with_key", with_key)
+    commands.correct_key(fleet.config, fleet.database, meter.name, "e" * 32, None, True)
+    other.join()
+    assert len(said) == 1 and "it had this key before" in said[0]
+    with pytest.raises(Trouble, match="it had this key before"):
+        commands.put_key(fleet.database, "again", meter.name, meter.key.hex(), NOW)
 
 
 def test_commands_of_a_meter_that_there_is_none_of(fleet: Fleet, tmp_path: Path, capsys: pytest.CaptureFixture[str]) -> None:

@@ -10,7 +10,8 @@ from wmbus_service.commands import OPEN, judge_ident, key_of, payload_of
 from wmbus_service.config import NAME, words_of
 from wmbus_service.importing import ADDRESS
 from wmbus_service.meters import (
-    PIECE, counted_anew, judge_former, judge_roster, keys_name, meters_in, name_of, pieces_of, read_roster, with_key, with_mode, with_noted,
+    PIECE, counted_anew, judge_former, judge_roster, judge_waiting_key, keys_name, meters_in, name_of, pieces_of, read_roster, with_key,
+    with_mode, with_noted,
 )
 from wmbus_service.trouble import Trouble
 
@@ -29,11 +30,13 @@ def put_command(database: Database, ident: str, address: str, payload: str, now:
 def put_key(database: Database, ident: str, address: str, key: str, now: float) -> bool:
     """Takes a meter's new second key; whether its id is new."""
     key, place, address = key_of(f"command {ident}", key), f"meter {address}", address.lower()
-    told = store.setting(database, keys_name(address))
-    judge_former(told, key, place)
-    # (the second key that it has may be replaced)
-    store.set_setting(database, keys_name(address), with_noted(told, block_of(database, address, f"command {ident}")))
-    return _put(database, ident, address, "rekey", key, now)
+    with store.transaction(database):
+        _wait_for_sessions(database, address)
+        told = store.setting(database, keys_name(address))
+        judge_former(told, key, place)
+        # (the second key that it has may be replaced)
+        store.set_setting(database, keys_name(address), with_noted(told, block_of(database, address, f"command {ident}")))
+        return _put(database, ident, address, "rekey", key, now)
 
 
 def correct_key(config: Config, database: Database, address: str, key: str, mode: str | None = None, is_anew: bool = False) -> None:
@@ -42,18 +45,24 @@ def correct_key(config: Config, database: Database, address: str, key: str, mode
     place, address = f"meter {address}", address.lower()
     key = key_of(place, key)
     with store.transaction(database):
-        # (a session that has the meter in hand ends before)
-        database.execute("select pg_advisory_xact_lock(%s, shard_of(%s))", (store.SESSIONS, address))
+        _wait_for_sessions(database, address)
         block = block_of(database, address, place)
         told = with_noted(store.setting(database, keys_name(address)), block)
         judge_former(told, key, place)
         if is_anew:
+            waiting = database.execute("select id from command where address = %s and kind = 'rekey' and state = 'waiting'", (address,))
+            judge_waiting_key([ident for (ident,) in waiting.fetchall()], "wmbus-fleet", place)
             told, block = counted_anew(told, block, key, place)
         store.set_setting(database, keys_name(address), told)
         block = with_mode(block, mode, place) if mode else block
         block = with_key(words_of(config.programs.steps), store.setting(database, "own") or "", block, key, place)
         database.execute("update meter set block = %s where address = %s", (block, address))
         database.execute("delete from refusal where address = %s", (address,))
+
+
+def _wait_for_sessions(database: Database, address: str) -> None:
+    """A session that has the meter in hand ends before, and who else changes its keys is done."""
+    database.execute("select pg_advisory_xact_lock(%s, shard_of(%s))", (store.SESSIONS, address))
 
 
 def block_of(database: Database, address: str, place: str) -> str:
