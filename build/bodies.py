@@ -159,27 +159,142 @@ def stated(path, text):
     return re.sub(r"\s+", " ", named(INSIDE.sub("", said)))
 
 
+# What the crates above a crate can see of it: a source file's statement, or one declaration of a file of definitions, with the names by which
+# they are called and how they are written there, in a text that brings in nothing.
+Part = namedtuple("Part", "crate path text names")
+# From where a text takes a name: the crate, the place among its definitions, and the name there.
+Taken = namedtuple("Taken", "crate place name")
+
+ITEM = re.compile(r"\bpub(?:\(\w+\))? (?:unsafe |const )*(?:struct|enum|trait|fn|const|static|type) (\w+)")
+IMPL = re.compile(r"\bimpl\b([^{;]*)\{")
+# in a crate's first file these say where its parts stand, which names tell themselves
+LISTED = re.compile(r"\b(?:pub(?:\(\w+\))? )?mod \w+;|\bpub use (?![^;]* as )[^;]*;")
+RENAMED = re.compile(r"\bpub use [^;]* as (\w+)")
+# what is no definition: a comment (a text may have its dashes)
+REMARK = re.compile(r'"(?:\\.|[^"\\])*"|--[^\n]*')
+BROUGHT = re.compile(r"(?m)^ *(?:pub )?(?:ghost )?use Rattle\.(\w+)\.specs\.([\w.]+?)(?:\.\{([^}]*)\}| as (\w+))?;?$")
+DECLARED = re.compile(r"(?:(?:abbrev|unfoldable|pub) )*(?:(?:record|data) ([^\s:]+)|([^\s:({]+)(?:(?! = ).)*?:|(?:module|infix[lr]?)\b)")
+INNER = re.compile(r"^ +(?:(?:abbrev|unfoldable|pub) )*(?:record |data )?([^\s:({]+)(?: [^=]*)? : ")
+WORD = re.compile(r"[^\s(){},;.]+")
+
+
+def names_in(text):
+    """The names that a source's statement gives to what other crates call: of its items, and of the types that it has methods of."""
+    types, items, at = set(), [], 0
+    for it in IMPL.finditer(text):
+        plain, is_for, of = re.sub(r"<[^<>]*(?:<[^<>]*>[^<>]*)*>", "", it[1]).partition(" for ")
+        types.add(type_word(of if is_for else plain))
+        # (methods are called by their types)
+        items.append(text[at:it.start()])
+        at = closing(text, it.end() - 1)
+    return {*ITEM.findall(" ".join([*items, text[at:]])), *RENAMED.findall(text), *types}
+
+
+def declarations(text):
+    """The declarations of a file of definitions, each with the names by which it is called: a record's and a module's inner ones too."""
+    found = []
+    for line in text.splitlines():
+        is_new = line and line[0] not in " })" and DECLARED.match(line)
+        if is_new:
+            found.append(({(is_new[1] or is_new[2] or "").strip("◌")}, [line]))
+        elif line.strip() and not line.lstrip().startswith(("use ", "pub use ", "pub mod ")) and found:
+            inner = INNER.match(line)
+            found[-1][0].update({inner[1].strip("◌")} if inner else ())
+            found[-1][1].append(line)
+    return [(names, re.sub(r"\s+", " ", " ".join(lines)).strip()) for names, lines in found]
+
+
+def taken_by(text):
+    """From where a text of sources or definitions takes which names of it."""
+    found = {}
+    for it in BROUGHT.finditer(text):
+        crate, place, names, other = it.groups()
+        for name in (names or "").split(", ") if names else [None]:
+            own, _, alias = (name or other or place.split(".")[-1]).partition(" as ")
+            found.setdefault((alias or own).strip("◌"), set()).add(Taken(crate, place, own if name else None))
+    return found
+
+
 @functools.cache
-def sum_of_statements(crate):
-    """A sum of what the crates above a crate see of it and can be held to: its definitions, and what its sources state."""
-    folder, total = f"{TOP}/crates/{crate}", hashlib.sha256()
+def parts(crate):
+    """What the crates above a crate can see of it, and of each part from where it takes which names."""
+    folder, found = f"{TOP}/crates/{crate}", []
     for path in files_below(f"{folder}/src"):
-        inside = os.path.relpath(path, folder)
-        total.update(f"{inside}\n{stated(inside, read(path))}\n".encode())
+        inside, whole = os.path.relpath(path, folder), read(path)
+        text = LISTED.sub("", stated(inside, whole)).strip()
+        if text:
+            found.append((Part(crate, inside, BROUGHT_INLINE.sub("", text), frozenset(names_in(text))), taken_by(whole)))
     for path in files_below(f"{folder}/specs"):
-        total.update(f"{os.path.relpath(path, folder)}\n{read(path)}".encode())
-    return total.hexdigest()
+        text = REMARK.sub(lambda it: "" if it[0].startswith("--") else it[0], read(path))
+        taken = taken_by(text)
+        found += [(Part(crate, os.path.relpath(path, folder), said, frozenset(names)), taken) for names, said in declarations(text)]
+    return tuple(found)
+
+
+# a statement's own lines that bring names in, which may name where these stood
+BROUGHT_INLINE = re.compile(r"ghost use Rattle\.[^;]*; ?")
+
+
+@functools.cache
+def by_file(crate):
+    found = {}
+    for part, taken in parts(crate):
+        found.setdefault(part.path, []).append((part, taken))
+    return found
+
+
+def parts_taken(taken, libraries_below):
+    """The parts that a text takes by such a name; all that may be meant where the place doesn't tell it."""
+    words, files = taken.place.split("."), by_file(taken.crate)
+    is_source = words[0] == "declared"
+    folder, words, ending = ("src", words[1:], "rt") if is_source else ("specs", words, "antt")
+    for count in range(len(words), 0, -1):
+        for end in (f".{ending}", f"/mod.{ending}"):
+            mine = files.get(f"{folder}/{'/'.join(words[:count])}{end}")
+            if mine:
+                wanted = {*words[count:], (taken.name or "").strip("◌")}
+                return mine if is_source else [it for it in mine if it[0].names & wanted] or mine
+    if is_source:
+        # (what stands in the first file is declared under no module)
+        return [it for path in ("src/lib.rt", "src/main.rt") for it in files.get(path, ())] or list(parts(taken.crate))
+    # (definitions of a lower crate that this one gives on)
+    return [it for name in libraries_below for path, mine in by_file(name).items() if path == f"specs/{words[0]}.antt" for it in mine]
+
+
+def seen_by(crate):
+    """The parts of the crates below that a crate's sources and definitions name, and those that these name in turn."""
+    folder, libraries_below = f"{TOP}/crates/{crate}", below(crate)
+    called = {}
+    for it in (it for name in libraries_below for it in parts(name)):
+        for name in it[0].names if it[0].path.startswith("src/") else ():
+            called.setdefault(name, []).append(it)
+    own = [(path, read(path)) for part in ("src", "specs") for path in files_below(f"{folder}/{part}")]
+    texts = [(BLANKED.sub(" ", text) if path.endswith(".rt") else text, path.endswith(".rt"), taken_by(text), crate, None) for path, text in own]
+    found = {}
+    while texts:
+        text, is_source, taken, home, path = texts.pop()
+        words = set(WORD.findall(text)) | set(re.findall(r"\w+", text))
+        more = [it for word in words for one in taken.get(word.strip("◌"), ()) if one.crate in libraries_below for it in parts_taken(one, libraries_below)]
+        # (operators stand between blanks, and a definition calls its neighbours by their names)
+        more += [it for it in by_file(home).get(path, ()) if not is_source and it[0].names & words] if path else []
+        more += [it for word in words for it in called.get(word, ())] if is_source else []
+        for part, its in more:
+            if part not in found:
+                found[part] = None
+                texts.append((part.text, part.path.startswith("src/"), its, part.crate, part.path))
+    return list(found)
 
 
 def sum_of_trial(crate):
-    """A sum of all that says whether a crate's bodies are wrong: its sources and definitions, the bodies, the statements of the crates below,
-    and the logic. Proofs are none of it, nor what a toolchain is called: where a body breaks a contract no proof can help it."""
+    """A sum of all that says whether a crate's bodies are wrong: its sources and definitions, the bodies, what it can see of the crates below,
+    wherever that stands there, and the logic. Proofs are none of it, nor what a toolchain is called: where a body breaks a contract no proof can
+    help it."""
     folder, total = f"{TOP}/crates/{crate}", hashlib.sha256(f"{logic_of(toolchain())} {known_crates()[crate]}\n".encode())
     for part in ("src", "specs", "must-fail"):
         for path in files_below(f"{folder}/{part}"):
             total.update(f"{os.path.relpath(path, folder)}\n{read(path)}".encode())
-    for name in below(crate):
-        total.update(f"{name} {sum_of_statements(name)}\n".encode())
+    for text in sorted(part.text for part in seen_by(crate)):
+        total.update(f"{text}\n".encode())
     return total.hexdigest()
 
 

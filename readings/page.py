@@ -1,7 +1,7 @@
 """Makes one page of the readings that bin/keep_readings or wmbus-service keeps: a file that any browser shows, without a server and without anything from outside.
 
 usage: bin/report_page [--names NAMES] [--now MOMENT] DB OUT.html
-       bin/report_page --help
+       bin/report_page --help | --version
 
 The page has each meter with its last values, when it was heard last, a curve for each quantity, what was used by day and month, why
 telegrams of it were refused, what commands wait, the receivers, and the strangers that were heard. OUT.html is written whole or not at all,
@@ -42,6 +42,7 @@ from readings.registers import Register, curve_words, line_of, used_notes
 from readings.schema import NoDatabase, ended, has_table, is_of_service, open_database
 from readings.service_tables import names_of
 from readings.used import rising_points, used_of
+from readings.version import version
 
 MOST_DIGITS = 300
 MOST_MONTHS = 12
@@ -543,7 +544,8 @@ def page_of(kept):
     yield joined([tag("h2", "Strangers"), strangers_part(kept), "\n"])
     if not kept.is_of_service:
         yield joined([tag("h2", "Reports"), reports_part(kept), "\n"])
-    yield f"</main>{tag('footer', SERVICE_FOOT if kept.is_of_service else FOOT, class_='soft small')}</body></html>\n"
+    foot = SERVICE_FOOT if kept.is_of_service else FOOT
+    yield f"</main>{tag('footer', f'{foot} wmbus {version()}.', class_='soft small')}</body></html>\n"
 
 
 class Unfit(Exception):
@@ -623,7 +625,8 @@ def write_whole(path, texts):
     part = f"{path}.{os.getpid()}.part"
     remove_left(path)
     try:
-        with open(part, "x", encoding="utf-8") as file:
+        # (a new one is its owner's alone, as the database from which it is made)
+        with open(part, "x", encoding="utf-8", opener=lambda name, flags: os.open(name, flags, 0o600)) as file:
             # (not every file system has locks)
             with contextlib.suppress(OSError):
                 fcntl.flock(file, fcntl.LOCK_EX)
@@ -645,6 +648,9 @@ def write_whole(path, texts):
 def main():
     if sys.argv[1:] == ["--help"]:
         print(__doc__)
+        return 0
+    if sys.argv[1:] == ["--version"]:
+        print(f"report_page {version()}")
         return 0
     given = words_given(sys.argv[1:])
     if given is None:

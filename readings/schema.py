@@ -1,12 +1,17 @@
-"""The database of readings that bin/keep_readings fills and bin/report_page shows: a SQLite file. That of wmbus-service is shown by the same tables (service_tables.py).
+"""The database of readings that bin/keep_readings fills and bin/report_page shows: a SQLite file. That of wmbus-service is shown by
+the same tables (service_tables.py).
 
 What a report says of stored steps is kept for ever, each step once. What it says beside that (refusals, commands that wait, strangers,
 how its receivers ended) is kept for each report, and goes with it when a later report takes its place."""
+from __future__ import annotations
+
 import contextlib
 import errno
+import io
 import os
 import sqlite3
 import sys
+from collections.abc import Callable
 
 from readings import service_tables
 
@@ -58,8 +63,8 @@ CREATE TABLE record (
     PRIMARY KEY (reading, place)
 ) WITHOUT ROWID;
 CREATE VIEW series AS
-    SELECT address, moment, counter, receiver, line, place AS record, name, function, storage, tariff, subunit, quantity, unit, qualifiers, value, number, unset, type,
-        modifiers, raw
+    SELECT address, moment, counter, receiver, line, place AS record, name, function, storage, tariff, subunit, quantity, unit,
+        qualifiers, value, number, unset, type, modifiers, raw
     FROM reading JOIN record ON record.reading = reading.id JOIN register ON register.id = record.register;
 """
 
@@ -136,11 +141,13 @@ class NoDatabase(Exception):
     """Why a file isn't used as a database of readings."""
 
 
-def open_database(path, create):
+def open_database(path: str, create: bool) -> sqlite3.Connection:
     """The database in this file; where there is none it is made, if `create` says so."""
     if not create and not os.path.isfile(path):
         raise NoDatabase(f"{path}: there is no such file; bin/keep_readings makes one")
     database = None
+    # (a new one is its owner's alone)
+    before = os.umask(0o077)
     try:
         # (SQLite keeps what is called :memory: alone nowhere)
         database = sqlite3.connect(os.path.join(".", path), timeout=PAGE_WAIT, isolation_level=None)
@@ -158,26 +165,33 @@ def open_database(path, create):
         if database is not None:
             database.close()
         raise error if isinstance(error, NoDatabase) else NoDatabase(f"{path}: {error}")
+    finally:
+        os.umask(before)
 
 
-def marks(database):
+def marks(database: sqlite3.Connection) -> list[int]:
+    """Whose database it is, and of which version."""
     return [database.execute(f"PRAGMA {name}").fetchone()[0] for name in ("application_id", "user_version")]
 
 
-def has_table(database, name):
-    return database.execute("SELECT count(*) FROM sqlite_master WHERE type = 'table' AND name = ?", (name,)).fetchone()[0] == 1
+def has_table(database: sqlite3.Connection, name: str) -> bool:
+    """Whether a database has a table of this name."""
+    (count,) = database.execute("SELECT count(*) FROM sqlite_master WHERE type = 'table' AND name = ?", (name,)).fetchone()
+    return bool(count == 1)
 
 
-def run_all(database, statements):
+def run_all(database: sqlite3.Connection, statements: str) -> None:
+    """Runs statements one after another."""
     for statement in statements.split(";\n"):
         database.execute(statement)
 
 
-def is_empty(database):
-    return marks(database) == [0, 0] and database.execute("SELECT count(*) FROM sqlite_master").fetchone()[0] == 0
+def is_empty(database: sqlite3.Connection) -> bool:
+    """Whether nothing is in a database yet."""
+    return marks(database) == [0, 0] and bool(database.execute("SELECT count(*) FROM sqlite_master").fetchone()[0] == 0)
 
 
-def make_tables(database):
+def make_tables(database: sqlite3.Connection) -> None:
     """Makes the tables of an empty database, all of them or none."""
     if not is_empty(database):
         return
@@ -191,17 +205,17 @@ def make_tables(database):
     database.execute("COMMIT")
 
 
-def is_of_service(database):
+def is_of_service(database: sqlite3.Connection) -> bool:
     """Whether this is the database of wmbus-service."""
     return marks(database)[0] == service_tables.APPLICATION
 
 
-def is_earlier(database):
+def is_earlier(database: sqlite3.Connection) -> bool:
     """Whether the tables of records are those of an earlier version."""
     return marks(database)[1] == EARLIER
 
 
-def empty_records(database):
+def empty_records(database: sqlite3.Connection) -> None:
     """Makes the tables of records anew, with nothing in them, in the midst of a transaction."""
     for statement in ("DROP VIEW series", "DROP TABLE record", "DROP TABLE register"):
         database.execute(statement)
@@ -209,7 +223,8 @@ def empty_records(database):
     database.execute(f"PRAGMA user_version = {VERSION}")
 
 
-def check_tables(database, path, create):
+def check_tables(database: sqlite3.Connection, path: str, create: bool) -> None:
+    """Refuses what is no database of readings, or one of another version."""
     application, version = marks(database)
     if is_of_service(database) and create:
         raise NoDatabase(f"{path}: this is the database of wmbus-service, which keeps its readings itself")
@@ -226,17 +241,19 @@ def check_tables(database, path, create):
         raise NoDatabase(f"{path}: it was made by another version: its tables are of version {version}, these tools know {known}")
 
 
-def fail(name, words):
+def fail(name: str, words: str) -> None:
     """Says why a script ends early, and that the reports that were kept are kept."""
     print(f"{name}: {words}; what was kept so far stands", file=sys.stderr)
 
 
-def ended(name, main):
-    """Runs a script, and answers its exit status. An interruption, an output that nobody takes, and want of memory or of files end it in words."""
+def ended(name: str, main: Callable[[], int]) -> int:
+    """Runs a script, and answers its exit status. An interruption, an output that nobody takes, and want of memory or of files end it in
+    words."""
     if sys.stdout is None:
         sys.stdout = open(os.devnull, "w", encoding="utf-8")
     # (a file's name may have what the standard output can't tell)
-    sys.stdout.reconfigure(errors="backslashreplace")
+    if isinstance(sys.stdout, io.TextIOWrapper):
+        sys.stdout.reconfigure(errors="backslashreplace")
     try:
         status = main()
         sys.stdout.flush()

@@ -1,5 +1,6 @@
-"""Rounds of `wmbus continue` over a folder, without a service: what receivers' files came in is heard, and a report, the last readings, downlinks and the
-next state come of it. Whenever it is killed or the power fails, the next start goes on as if nothing had been; docs/SESSIONS.md says what stands in the folder."""
+"""Rounds of `wmbus continue` over a folder, without a service: what receivers' files came in is heard, and a report, the last readings,
+downlinks and the next state come of it. Whenever it is killed or the power fails, the next start goes on as if nothing had been;
+docs/SESSIONS.md says what is in the folder."""
 from __future__ import annotations
 
 from readings import quiet
@@ -17,6 +18,7 @@ import time
 from pathlib import Path
 
 from readings import programs
+from readings.version import ShowVersion
 
 FAULTY_FOLDER, IN_USE, STOPPED = 1, 9, 130
 # what may be read or written by others than a file's owner
@@ -200,6 +202,7 @@ def seconds(text: str) -> float:
 def words() -> argparse.Namespace:
     """The words behind the script's name."""
     parser = argparse.ArgumentParser(prog="bin/sessions", description=__doc__, epilog=STATUSES)
+    parser.add_argument("--version", action=ShowVersion)
     parser.add_argument("folder", metavar="FOLDER", type=Path,
                         help="has the file state, a roster at first, and rx/, into which receivers' files are renamed")
     parser.add_argument("--every", metavar="SECONDS", type=seconds,
@@ -235,4 +238,3 @@ def run() -> int:
             print("sessions: stopped; the next start goes on", file=sys.stderr)
             return STOPPED
     return 0
-

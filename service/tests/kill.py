@@ -144,7 +144,7 @@ class Trial:
         for name in RECEIVERS:
             feeder = f"{PYTHON} {TOP}/service/tests/feeder.py {self.folder}/{name}.telegrams {self.folder}/{name}.place {self._pause()}"
             text += f'[receivers.{name}]\ncommand = "{feeder}"\nformat = "hex"\ndownlinks = "{self.folder}/{name}.sent"\n'
-        return text + (f"[mqtt]\nport = {self.broker.port}\n" if self.broker else "")
+        return text + (f"[mqtt]\ncommands = true\nport = {self.broker.port}\n" if self.broker else "")
 
     def _pause(self) -> float:
         return self.plan.seconds / (self.plan.meters * self.plan.rounds * 1.2)

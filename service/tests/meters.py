@@ -4,8 +4,8 @@ from __future__ import annotations
 import random
 from dataclasses import dataclass, field
 
-import messages
-from frames import format_a
+from telegrams import messages
+from telegrams.frames import format_a
 
 OWN = "9315010000000131"
 SECONDARY = bytes.fromhex("0c2b75230000") * 8

@@ -9,6 +9,7 @@ from typing import Any
 import pytest
 from flask import Flask
 from flask.testing import FlaskClient
+from wmbus_service.days import zone_now
 from wmbus_service.page.app import create_app
 
 from readings.used import hour_of
@@ -49,9 +50,15 @@ class PageHouse:
                                         (number, place, quantity, unit, exponent, value, function, storage, modifiers, "00ff"))
         self.write("commit")
 
-    def volume(self, address: str, moment: float, litres: int) -> None:
+    def volume(self, address: str, moment: float, litres: int, made: float | None = None) -> None:
         """A reading of a volume."""
-        self.read(address, moment, ("volume", "m3", -3, str(litres)))
+        self.read(address, moment, ("volume", "m3", -3, str(litres)), made=made)
+
+    def day(self, address: str, day: str, litres: str) -> None:
+        """The last value of a day whose readings are gone, of its last second."""
+        moment = int(time.mktime((*time.strptime(day, "%Y-%m-%d")[:3], 23, 59, 59, 0, 0, -1)))
+        self.write("insert into daily values (?, ?, 'volume', 'm3', -3, ?, 'instantaneous', 0, 0, 0, '', ?, ?)", address, day, litres,
+                   zone_now(), moment)
 
     def write(self, query: str, *given: object) -> None:
         """Changes the database."""

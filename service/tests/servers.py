@@ -92,11 +92,13 @@ class Mosquitto:
 class Listener:
     """A client that keeps all that is published, and that the broker keeps it for while it isn't there."""
 
-    def __init__(self, port: int, topics: list[str]) -> None:
+    def __init__(self, port: int, topics: list[str], user: str = "") -> None:
         import paho.mqtt.client as mqtt
         self.heard: list[tuple[str, str, bool]] = []
         self.ends, subscribed = 0, threading.Event()
-        self.client = mqtt.Client(client_id="listener", clean_session=False)
+        self.client = mqtt.Client(client_id=f"listener{user}", clean_session=False)
+        if user:
+            self.client.username_pw_set(user, "secret")
         self.client.on_connect = lambda client, *_: client.subscribe([(topic, 1) for topic in [*topics, END]])
         self.client.on_subscribe = lambda *_: subscribed.set()
         self.client.on_message = lambda _client, _data, message: self.heard.append((message.topic, message.payload.decode(),

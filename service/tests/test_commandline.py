@@ -19,7 +19,7 @@ from contextlib import closing, redirect_stderr, redirect_stdout, suppress
 from dataclasses import dataclass
 from pathlib import Path
 
-import messages
+from telegrams import messages
 import pytest
 from wmbus_service import backup, config, exporting, meters, schema, service, store
 from wmbus_service.backup import raise_counters
@@ -803,6 +803,10 @@ def test_configuration(place: Place) -> None:
         folder + "spool_bytes = 0\n": "spool_bytes is 0",
         folder + "[receivers.Attic]\n": "receivers.Attic: a name has",
         folder + "[receivers.attic]\nprofile = 1\n": "receivers.attic.profile isn't a text",
+        folder + 'receivers = "rtl_433"\n': "receivers isn't a table, and each has one under its own name: write [receivers.NAME]",
+        folder + '[receivers]\nprofile = "rtl_433"\n': "receivers.profile isn't a table, and each has one under its own name",
+        folder + '[[receivers]]\nprofile = "cul"\n': "receivers isn't a table, and each has one under its own name",
+        folder + "mqtt = true\n": "mqtt isn't a table: write [mqtt], and its settings below it",
         folder + "[mqtt]\nport = -1\n": "mqtt.port isn't a number",
         folder + "[page]\nport = 99999\n": "page.port isn't a number from 0 to 65535",
         folder + "[ticks\n": "it is no TOML",

@@ -224,6 +224,8 @@ def test_a_state_that_was_taken_as_a_roster(place: Place) -> None:
         for number, block in enumerate(("reading 1700000123 24 2f2f0c1427048502 -\n", "command 5 0 02 -\n", "end -\n"), 2):
             database.execute("insert into meter (address, place, block) values (?, ?, ?)", (block.split(" ")[1], number, block))
         database.execute("alter table meter drop column retired")
+        database.execute("alter table command drop column asked_by")
+        database.execute("drop table publication_aside")
         database.execute("pragma user_version = 5")
     copy, state = place.folder / "copy.db", place.folder / "state"
     with closing(sqlite3.connect(copy)) as made:

@@ -4,6 +4,7 @@ from __future__ import annotations
 import functools
 import json
 import os
+import re
 import shutil
 import signal
 import socket
@@ -19,6 +20,7 @@ from typing import Any
 
 import pytest
 from wmbus_service import broker, metrics, service, session, status, steps, store
+from wmbus_service.checking import broker_words
 from wmbus_service.commands import put_command
 from wmbus_service.config import Config, Metrics, Mqtt, Programs
 from wmbus_service.ending import Ending
@@ -27,7 +29,7 @@ from wmbus_service.publications import announce_anew, template_of
 from wmbus_service.sensors import KINDS, kind_of, shown
 from wmbus_service.trouble import Trouble
 
-import messages
+from telegrams import messages
 from . import servers
 from .kill import TOP, Child
 from .meters import line_of
@@ -81,7 +83,7 @@ class Served:
 
     def __init__(self, house: House, mosquitto: Mosquitto, config: Config | None = None) -> None:
         self.house, self.mosquitto = house, mosquitto
-        self.config = config or replace(house.config, interval=0.05, mqtt=Mqtt(port=mosquitto.port),
+        self.config = config or replace(house.config, interval=0.05, mqtt=Mqtt(port=mosquitto.port, commands=True),
                                         metrics=Metrics(port=free_port()))
         self.listener = Listener(mosquitto.port, ["wmbus/#", "homeassistant/#"])
         house.database.close()
@@ -111,9 +113,14 @@ def test_readings_and_commands(house: House, mosquitto: Mosquitto) -> None:
     for text in ("", "{", "[]", '{"id": "b"}', '{"id": "b", "payload": "x"}', '{"id": "' + "b" * 70 + '", "payload": "01"}'):
         send(f"wmbus/command/{meter.name}", text, 1)
     answers = f"wmbus/commands/{meter.name}"
-    until(lambda: len(served.heard(answers)) >= 7)
-    assert house.all("select id, payload from command") == [("a", "0102")]
-    assert sum("error" in it for it in served.heard(answers)) == 6
+    # (the same command once more is taken, and isn't sent twice)
+    send(f"wmbus/command/{meter.name}", json.dumps({"id": "a", "payload": "0102"}), 1)
+    send(f"wmbus/command/{house.meters[1].name}", json.dumps({"id": "a", "payload": "0102"}), 1)
+    until(lambda: len(served.heard(answers)) >= 8 and served.heard(f"wmbus/commands/{house.meters[1].name}"))
+    assert house.all("select id, payload, asked_by from command") == [("a", "0102", "MQTT")]
+    assert sum("error" in it for it in served.heard(answers)) == 7
+    (told,) = served.heard(f"wmbus/commands/{house.meters[1].name}")
+    assert "command a: its id was used for another command" in str(told["error"])
     house.spool(house.whole(meter, access=0x84) + house.whole(meter, 0x08))
     until(lambda: any(it.get("state") == "confirmed" for it in served.heard(answers)))
     assert [it["state"] for it in served.heard(answers) if "state" in it][0] == "queued"
@@ -156,7 +163,7 @@ def test_a_cancellation_under_another_meter(house: House) -> None:
     meter, other = (it.name for it in house.meters[:2])
     put_command(house.database, "a", meter, "01", time.time())
     for address, state in ((other, "waiting"), (meter.upper(), "cancelled")):
-        broker.take_message(Mqtt(), house.database, f"wmbus/cancel/{address}", b'{"id": "a"}')
+        broker.take_message(Mqtt(commands=True), house.database, f"wmbus/cancel/{address}", b'{"id": "a"}')
         assert house.all("select state from command") == [state]
     told = house.all("select topic, payload from publication order by id")
     assert told[0][0] == f"wmbus/commands/{other}" and "error" in json.loads(told[0][1])
@@ -167,7 +174,7 @@ def test_a_command_to_a_meter_out_of_service(house: House) -> None:
     """It is answered in words, and not taken."""
     meter = house.meters[0].name
     house.database.execute("update meter set retired = 1800000000")
-    broker.take_message(Mqtt(), house.database, f"wmbus/command/{meter}", b'{"id": "a", "payload": "01"}')
+    broker.take_message(Mqtt(commands=True), house.database, f"wmbus/command/{meter}", b'{"id": "a", "payload": "01"}')
     assert not house.all("select id from command")
     (told,) = house.all("select payload from publication")
     assert f"the meter {meter} is out of service since 2027-01-1" in json.loads(told)["error"]
@@ -177,7 +184,7 @@ def test_a_command_to_a_meter_out_of_service(house: House) -> None:
 def test_an_id_that_is_none(house: House, text: str) -> None:
     """A command under an id that is neither a text nor a number, as a template gives null for what it hasn't, is answered, and not taken:
     the next such one would be taken for the same."""
-    broker.take_message(Mqtt(), house.database, f"wmbus/command/{house.meters[0].name}", f'{{"id": {text}, "payload": "01"}}'.encode())
+    broker.take_message(Mqtt(commands=True), house.database, f"wmbus/command/{house.meters[0].name}", f'{{"id": {text}, "payload": "01"}}'.encode())
     assert not house.all("select id from command")
     assert ["error" in json.loads(it) for it in house.all("select payload from publication")] == [True]
 
@@ -189,7 +196,7 @@ def test_a_command_under_an_earlier_topic(house: House, topic: str) -> None:
     meter = house.meters[0].name
     put_command(house.database, "a", meter, "01", time.time())
     for ident in ("a", "b"):
-        broker.take_message(Mqtt(), house.database, f"{topic}/command/{meter}", json.dumps({"id": ident, "payload": "01"}).encode())
+        broker.take_message(Mqtt(commands=True), house.database, f"{topic}/command/{meter}", json.dumps({"id": ident, "payload": "01"}).encode())
     assert house.all("select id, state from command") == [("a", "waiting")]
     assert not house.all("select topic from publication")
 
@@ -243,7 +250,7 @@ def test_a_connection_that_is_reset_at_once(house: House, monkeypatch: pytest.Mo
         monkeypatch.setattr(socket, "create_connection", connected)
         threading.Thread(target=serve, daemon=True).start()
         ending = Ending()
-        connecting = broker.Broker(house.config, Mqtt(port=server.getsockname()[1]), ending)
+        connecting = broker.Broker(house.config, Mqtt(port=server.getsockname()[1], commands=True), ending)
         connecting.start()
         until(lambda: not connecting.is_alive() or len(came) > 1)
         assert connecting.is_alive() and "it is tried again" in caplog.text
@@ -310,7 +317,7 @@ def test_a_broker_that_lets_nothing_be_subscribed(house: House, caplog: pytest.L
                         opened.sendall(bytes([0x90, 4]) + body[:2] + bytes([0x80, 0x80]))
         threading.Thread(target=serve, daemon=True).start()
         ending = Ending()
-        connecting = broker.Broker(house.config, Mqtt(port=server.getsockname()[1]), ending)
+        connecting = broker.Broker(house.config, Mqtt(port=server.getsockname()[1], commands=True), ending)
         connecting.start()
         with suppress(AssertionError):
             until(lambda: "subscribe" in caplog.text, 5)
@@ -340,7 +347,7 @@ def test_a_topic_that_can_be_none(house: House, topic: bytes, words: str, caplog
         is_judged = threading.Event()
         threading.Thread(target=serve, daemon=True).start()
         ending = Ending()
-        connecting = broker.Broker(house.config, Mqtt(port=server.getsockname()[1]), ending)
+        connecting = broker.Broker(house.config, Mqtt(port=server.getsockname()[1], commands=True), ending)
         connecting.start()
         until(lambda: not connecting.is_alive() or house.all("select id from command"))
         is_judged.set()
@@ -368,7 +375,7 @@ def test_a_packet_that_is_none(house: House, sent: bytes, caplog: pytest.LogCapt
                             pass
         threading.Thread(target=serve, daemon=True).start()
         ending = Ending()
-        connecting = broker.Broker(house.config, Mqtt(port=server.getsockname()[1]), ending)
+        connecting = broker.Broker(house.config, Mqtt(port=server.getsockname()[1], commands=True), ending)
         connecting.start()
         until(lambda: not connecting.is_alive() or len(came) > 1)
         assert connecting.is_alive() and "it is tried again" in caplog.text
@@ -490,6 +497,7 @@ def test_password_and_tls(tmp_path: Path, house: House) -> None:
                           f"certfile {certificate}\nkeyfile {key}\nallow_anonymous false\npassword_file {files}/users\n")
     # (as an editor on Windows writes it)
     (files / "password").write_bytes(b"\xef\xbb\xbfsecret\r\n")
+    (files / "password").chmod(0o600)
     told = Mqtt(port=mosquitto.port, user="house", password_file=str(files / "password"), tls=True,
                 authority=str(certificate))
     broker.try_connection(told)
@@ -516,6 +524,7 @@ def test_a_broker_that_refuses_the_user(tmp_path: Path, house: House) -> None:
 def test_password_in_another_encoding(tmp_path: Path, house: House) -> None:
     """A password that isn't in UTF-8 is said to be so, without a sign of it, and what connects tries on, so that a right one is found."""
     (tmp_path / "password").write_bytes("sch\u00f6n".encode("latin-1"))
+    (tmp_path / "password").chmod(0o600)
     told = Mqtt(port=free_port(), user="house", password_file=str(tmp_path / "password"))
     with pytest.raises(Trouble, match="password: .*UTF-8"):
         broker.try_connection(told)
@@ -532,6 +541,134 @@ def test_a_password_without_a_user(mosquitto: Mosquitto) -> None:
     """It isn't sent (MQTT 3.1.1, 3.1.2.9), and `check` says so, also where the broker takes everybody."""
     with pytest.raises(Trouble, match="mqtt.password_file: "):
         broker.try_connection(Mqtt(port=mosquitto.port, password_file="/etc/wmbus/mqtt.password"))
+
+
+def test_a_password_that_others_may_read(tmp_path: Path) -> None:
+    """Its file is its owner's alone, as that of a token; `check` says so, and where it goes to another machine in the clear."""
+    path = tmp_path / "password"
+    with pytest.raises(Trouble, match=f"{path}: there is no such file"):
+        broker.try_connection(Mqtt(port=free_port(), user="house", password_file=str(path)))
+    path.write_text("secret")
+    for rights in (0o644, 0o640, 0o604):
+        path.chmod(rights)
+        with pytest.raises(Trouble, match=f"{path}: others have rights on it.*chmod 600"):
+            broker.try_connection(Mqtt(port=free_port(), user="house", password_file=str(path)))
+    told = Mqtt("broker.example", user="house", password_file=str(path))
+    assert "password goes in the clear to broker.example" in broker_words(told)
+    for safe in (replace(told, tls=True), replace(told, host="127.0.0.1"), replace(told, password_file="")):
+        assert not broker_words(safe)
+
+
+def test_commands_that_are_turned_off(house: House, mosquitto: Mosquitto) -> None:
+    """Where nobody turned them on no command comes by MQTT, also none that the broker kept from when they were on."""
+    off = replace(house.config, interval=0.05, mqtt=Mqtt(port=mosquitto.port))
+    on = replace(off, mqtt=Mqtt(port=mosquitto.port, commands=True))
+    topic, listener = f"wmbus/command/{house.meters[0].name}", Listener(mosquitto.port, ["wmbus/status"])
+    for number, (config, is_taken) in enumerate(((off, False), (on, True), (off, False), (off, False))):
+        house.database.close()
+        child = Child(house.config.folder / "log", lambda config=config: service.run(config))  # type: ignore[misc]
+        house.database = store.open_store(house.config.database)
+        try:
+            until(lambda number=number: len([it for it in listener.heard if it[1] == "online"]) == number + 1)  # type: ignore[misc]
+            listener.client.publish(topic, json.dumps({"id": f"a{number}", "payload": "01"}), 1)
+            listener.hear_all()
+            until(lambda: not is_taken or house.all("select id from command"))
+        finally:
+            assert child.end(signal.SIGTERM) == 0
+        # (the broker keeps it for a session that has subscribed)
+        listener.client.publish(topic, json.dumps({"id": f"between {number}", "payload": "01"}), 1)
+        listener.hear_all()
+    listener.end()
+    assert house.all("select id, asked_by from command") == [("a1", "MQTT")]
+    assert "commands by MQTT are off (mqtt.commands)" in (house.config.folder / "log").read_text()
+
+
+def test_garbage_that_the_broker_retains(house: House, mosquitto: Mosquitto) -> None:
+    """What somebody had the broker retain under the service's topics, of any form and size, does nothing at any of its connections: no
+    command is taken from it, nothing is answered without end, and what comes besides is taken."""
+    meter, path = house.meters[0].name, f"wmbus/command/{house.meters[0].name}"
+    listener = Listener(mosquitto.port, ["wmbus/commands/#", "wmbus/status"])
+    for topic, payload in ((path, '{"id": "old", "payload": "01"}'), ("wmbus/command/x", "\0" * 1000), ("wmbus/command/" + "y" * 60_000, "{}"),
+                           ("wmbus/cancel/z", "[" * 100_000), (f"wmbus/cancel/{meter}", "x" * 5_000_000), ("wmbus/command/" + "a/b" * 50, ""),
+                           (f"wmbus/meter/{meter}", "garbage"), ("wmbus/status", "garbage"), (f"wmbus/commands/{meter}", "garbage")):
+        listener.client.publish(topic, payload, 1, True)
+    listener.hear_all()
+    config = replace(house.config, interval=0.05, mqtt=Mqtt(port=mosquitto.port, commands=True))
+    for number in range(3):
+        house.database.close()
+        child = Child(house.config.folder / "log", lambda: service.run(config))
+        house.database = store.open_store(house.config.database)
+        try:
+            until(lambda number=number: len([it for it in listener.heard if it[1] == "online"]) == number + 1)  # type: ignore[misc]
+            listener.client.publish(path, json.dumps({"id": f"new-{number}", "payload": "01"}), 1)
+            until(lambda number=number: len(house.all("select id from command")) == number + 1)  # type: ignore[misc]
+        finally:
+            assert child.end(signal.SIGTERM) == 0
+    listener.hear_all()
+    listener.end()
+    assert house.all("select id from command") == ["new-0", "new-1", "new-2"]
+    log = (house.config.folder / "log").read_text()
+    assert "Traceback" not in log and log.count("what the broker retains under") == 3 * 5
+    assert not any("error" in text for _, text, _ in listener.heard)
+    assert ("wmbus/status", "offline", False) in listener.heard
+
+
+def test_rights_at_the_broker(house: House, tmp_path: Path) -> None:
+    """With the rights that docs/SERVICE.md has for Mosquitto the service and Home Assistant do what they have to, and others read alone."""
+    text = (TOP / "docs/SERVICE.md").read_text()
+    files = tmp_path / "acl"
+    files.mkdir()
+    (files / "acl").write_text("".join(f"{line}\n" for line in re.findall("^    ((?:user|topic) .*)$", text, re.MULTILINE)))
+    for user in ("wmbus", "homeassistant", "guest"):
+        run(["mosquitto_passwd", "-b", *["-c"] * (user == "wmbus"), files / "users", user, "secret"])
+    (files / "password").write_text("secret")
+    (files / "password").chmod(0o600)
+    mosquitto = Mosquitto(tmp_path / "rights", f"allow_anonymous false\npassword_file {files}/users\nacl_file {files}/acl\n")
+    told = Mqtt(port=mosquitto.port, user="wmbus", password_file=str(files / "password"), commands=True)
+    house.database.close()
+    child = Child(house.config.folder / "log", lambda: service.run(replace(house.config, interval=0.05, mqtt=told)))
+    house.database = store.open_store(house.config.database)
+    meter = house.meters[0].name
+    try:
+        readers = {user: Listener(mosquitto.port, ["wmbus/#", "homeassistant/#"], user) for user in ("homeassistant", "guest")}
+        house.spool(house.whole(house.meters[0]))
+        until(lambda: not house.all("select id from publication") and house.all("select id from reading"))
+        for user, reader in readers.items():
+            reader.client.publish(f"wmbus/command/{meter}", json.dumps({"id": user, "payload": "01"}), 1)
+            reader.client.publish(f"wmbus/meter/{meter}", "{}", 1, True)
+        until(lambda: house.all("select id from command"))
+        until(lambda: all(any(it[0] == f"wmbus/meter/{meter}" for it in reader.heard) for reader in readers.values()))
+        until(lambda: any("/config" in it[0] for it in readers["homeassistant"].heard))
+        assert not any("/config" in it[0] or "command" in it[0] for it in readers["guest"].heard)
+        assert house.all("select id from command") == ["homeassistant"]
+        assert not any(it[1] == "{}" for it in readers["homeassistant"].heard)
+    finally:
+        for reader in readers.values():
+            reader.end()
+        assert child.end(signal.SIGTERM) == 0
+        mosquitto.end()
+
+
+def test_a_message_that_the_broker_does_not_take(house: House, tmp_path: Path, monkeypatch: pytest.MonkeyPatch) -> None:
+    """One over which the broker ends the connection, as over one that is too large for it, is set aside by its topic, is told, and holds
+    up no other one."""
+    monkeypatch.setattr(broker, "MOST_PAUSE", 0.1)
+    # (a sensor's message has some 500 bytes, that of a meter some 100)
+    mosquitto = Mosquitto(tmp_path / "small", "allow_anonymous true\nmax_packet_size 300\n")
+    served, meter = Served(house, mosquitto), house.meters[0].name
+    try:
+        house.spool("".join(house.whole(house.meters[0]) for _ in range(5)))
+        until(lambda: len(served.heard(f"wmbus/meter/{meter}")) >= 5)
+        until(lambda: house.all("select id from publication_aside"))
+        assert [it["counter"] for it in served.heard(f"wmbus/meter/{meter}")][-1] == 5
+        topics = house.all("select topic from publication_aside")
+        assert topics == [f"homeassistant/sensor/wmbus_{meter}/volume/config"]
+        told = status.status(served.config, False)
+        assert f"for {topics[0]} was set aside: the broker ended 3 connections over it" in told
+        assert topics[0] in served.log.read_text()
+    finally:
+        served.child.end()
+        mosquitto.end()
 
 
 @pytest.mark.parametrize("text", [None, "no certificate"])
@@ -621,6 +758,17 @@ def test_metrics(house: House, mosquitto: Mosquitto) -> None:
     served.end()
 
 
+@pytest.mark.parametrize("host, name, is_told", [("127.0.0.1", "127.0.0.1:9101", True), ("127.0.0.1", "localhost", True),
+                                                 ("::1", "[::1]:9101", True), ("127.0.0.1", "evil.example:9101", False),
+                                                 ("127.0.0.1", "", False), ("0.0.0.0", "house.example", True)])
+def test_the_name_under_which_metrics_are_asked(host: str, name: str, is_told: bool) -> None:
+    """On this machine the metrics are told under its own names alone: no site whose name leads here has a browser read them."""
+    begun: list[str] = []
+    app = metrics.under_own_names(Metrics(host=host), lambda _environ, begin: begin("200 OK", []) or [b"all"])
+    content = b"".join(app({"HTTP_HOST": name}, lambda status, _headers: begun.append(status)))
+    assert (begun[0], content == b"all") == (("200 OK", True) if is_told else ("400 Bad Request", False))
+
+
 def test_silent_and_slow_connections_to_the_metrics(house: House, monkeypatch: pytest.MonkeyPatch) -> None:
     """Who connects and says nothing, or a byte now and then, as anybody on the machine may, has no metrics wait, and takes neither threads nor
     open files that sessions need."""
@@ -673,7 +821,7 @@ def test_a_session_and_a_wrong_clock(house: House, monkeypatch: pytest.MonkeyPat
 def line_of_nobody() -> str:
     """A telegram of a meter that isn't known."""
     from .meters import line_of
-    import messages
+    from telegrams import messages
     return line_of(messages.telegram(0x44, bytes.fromhex("9315999999990107"), bytes.fromhex("7a00000000")), 1)
 
 
@@ -683,7 +831,7 @@ def test_no_key_is_told(house: House, mosquitto: Mosquitto, tmp_path: Path, monk
     slow = tmp_path / "slow"
     slow.write_text(f'#!/bin/sh\nsleep 0.5\nexec {TOP}/tests/reference/steps "$@"\n')
     slow.chmod(0o755)
-    config = replace(house.config, interval=0.05, mqtt=Mqtt(port=mosquitto.port), metrics=Metrics(port=free_port()),
+    config = replace(house.config, interval=0.05, mqtt=Mqtt(port=mosquitto.port, commands=True), metrics=Metrics(port=free_port()),
                      programs=Programs(steps=str(slow)))
     served = Served(house, mosquitto, config)
     meter = house.meters[0]

@@ -6,10 +6,12 @@ import itertools
 import os
 import pwd
 import resource
+import shutil
 import signal
 import socket
 import sqlite3
 import stat
+import subprocess
 import sys
 import tempfile
 import time
@@ -28,11 +30,11 @@ from wmbus_service.page import looks
 from wmbus_service.service import Service
 from wmbus_service.trouble import Trouble
 
-import messages
+from telegrams import messages
 from . import measure
 from .kill import MEMORY, TOP, Child
 from .meters import line_of
-from .processes import PATIENCE, until
+from .processes import PATIENCE, started, until
 from .stand_in import use_stand_in
 from .test_sessions import NOW, House, house_fixture  # noqa: F401
 
@@ -534,15 +536,19 @@ def test_retention(house: House) -> None:
 
 def test_days_that_were_heard_late(house: House) -> None:
     """What receivers heard on days on which the service was down is of those days: the last values of each of them stay, and not those of
-    the day alone on which all was taken out of the spool. A moment that can be none, or is far ahead, names no day."""
+    the day alone on which all was taken out of the spool. A moment that can be none, or is far ahead, names no day; it is that of its
+    session, where nothing else was heard on it."""
     meter = house.meters[0]
     house.spool("".join(house.whole(meter, moment=int(NOW) + moment)
                         for moment in (-2 * DAY, -2 * DAY + 60, -DAY, -DAY + 60, 0)) + house.whole(meter, moment=int(NOW) + 900 * DAY))
     house.hear(NOW)
-    while retention.let_go(house.database, Keep(readings=1), NOW + 2 * DAY):
+    house.spool(house.whole(meter, moment=int(NOW) + 900 * DAY))
+    house.hear(NOW + DAY)
+    while retention.let_go(house.database, Keep(readings=1), NOW + 3 * DAY):
         pass
     # (1,800,000,000 is the 15th of January 2027, 08:00)
-    assert house.all("select day, value from daily order by day") == [("2027-01-13", "2"), ("2027-01-14", "4"), ("2027-01-15", "6")]
+    assert house.all("select day, value from daily order by day") == [
+        ("2027-01-13", "2"), ("2027-01-14", "4"), ("2027-01-15", "5"), ("2027-01-16", "7")]
 
 
 @pytest.mark.parametrize("piece", [1, 1000])
@@ -570,9 +576,99 @@ def test_days_of_an_earlier_version(tmp_path: Path, monkeypatch: pytest.MonkeyPa
         with closing(store.open_store(path, is_new=True)) as database:
             database.execute(f"insert into daily values (?{', ?' * 9})", day)
     with closing(store.open_store(path)) as database:
-        assert database.execute("select * from daily").fetchall() == [(*day, "")]
-        database.execute(f"insert into daily values (?{', ?' * 9}, '3c')", day)
+        # (1,769,903,999 is the 31st of January 2026, 23:59:59 in UTC)
+        assert database.execute("select * from daily").fetchall() == [(*day, "", "UTC", 1_769_903_999)]
+        database.execute(f"insert into daily values (?{', ?' * 9}, '3c', 'UTC', 0)", day)
         assert database.execute("pragma integrity_check").fetchone() == ("ok",)
+
+
+@pytest.mark.parametrize("version", range(1, schema.VERSION))
+def test_a_database_of_each_earlier_version(tmp_path: Path, monkeypatch: pytest.MonkeyPatch, version: int) -> None:
+    """What a database of each earlier version has is there in this one, whole; while one process brings it on the others say so, and where
+    that is ended amid a step nothing of it counts, and it begins anew."""
+    path, given = tmp_path / "wmbus.db", {
+        "setting": ("own", "9315010000000131"), "meter (address, place, name, block)": ("a", 1, "heat", "meter a 7 k - 5 9 0\n"),
+        "source": ("attic", "attic.1.lines", 7), "line (receiver, text, made)": ("attic", "A 1 00", NOW),
+        "reading": (1, 1, "a", 5, int(NOW), "attic", "2f2f", None, 0, NOW),
+        "record": (1, 0, "volume", "m3", -3, "7", "instantaneous", 0, 0, 0, "", "00ff"),
+        "refusal": ("a", "mac", "mac", 2, 1, NOW), "stranger": ("b", 3, "attic", NOW),
+        "command (id, address, kind, payload, state, number, tries, made, changed)": ("c", "a", "send", "01", "sent", 1, 2, NOW, NOW),
+        "outbox": (1, "attic", "a", 9, "00", 1, NOW, NOW, None), "publication (topic, payload, retain)": ("t", "p", 1),
+        "announced (address, name)": ("a", "volume"), "aside": (1, "attic", "bad", "why", NOW), "total": ("lines", 4),
+        "daily (address, day, quantity, unit, exponent, value, function, storage, tariff, subunit"
+        + ", modifiers" * (version >= 2) + ", zone, moment" * (version >= 8) + ")":
+            ("a", "2026-01-31", "volume", "m3", -3, "6", "instantaneous", 0, 0, 0, *[""] * (version >= 2), *["CET", 7] * (version >= 8))}
+    with monkeypatch.context() as earlier:
+        earlier.setattr(schema, "MIGRATIONS", schema.MIGRATIONS[:version])
+        earlier.setattr(schema, "VERSION", version)
+        with closing(store.open_store(path, is_new=True)) as database:
+            for table, row in given.items():
+                database.execute(f"insert into {table} values (?{', ?' * (len(row) - 1)})", row)
+    with monkeypatch.context() as ended:
+        ended.setattr(schema, "MIGRATIONS", (*schema.MIGRATIONS[:-1], schema.MIGRATIONS[-1] + "create table setting (a);\n"))
+        with pytest.raises(Trouble, match="already exists"):
+            store.open_store(path)
+    with store.only_one(path), pytest.raises(Trouble, match="another process brings the database to this version; wait: its log"):
+        store.open_store(path)
+    with closing(store.open_store(path)) as database:
+        for table, row in given.items():
+            columns = table.partition("(")[2].rstrip(")") or ", ".join(
+                name for (name,) in database.execute(f"select name from pragma_table_info('{table}') order by cid limit {len(row)}"))
+            assert database.execute(f"select {columns} from {table.partition(' ')[0]}").fetchall() == [row], table
+        assert database.execute("pragma integrity_check").fetchone() == ("ok",)
+        assert database.execute("pragma user_version").fetchone() == (schema.VERSION,)
+
+
+def test_a_step_that_takes_long(tmp_path: Path, monkeypatch: pytest.MonkeyPatch, caplog: pytest.LogCaptureFixture) -> None:
+    """The log says at which step of how many a great database is that is brought to this version, and that it goes on."""
+    caplog.set_level("INFO", "wmbus")
+    path = tmp_path / "wmbus.db"
+    monkeypatch.setattr(store, "TOLD_EACH", 0.0)
+    monkeypatch.setattr(store, "STEPS", 1000)
+    with monkeypatch.context() as earlier:
+        earlier.setattr(schema, "MIGRATIONS", schema.MIGRATIONS[:7])
+        earlier.setattr(schema, "VERSION", 7)
+        with closing(store.open_store(path, is_new=True)) as database, store.transaction(database):
+            database.executemany("insert into daily values (?, '2026-01-31', 'volume', 'm3', 0, '1', 'instantaneous', 0, 0, 0, '')",
+                                 [(str(number),) for number in range(20_000)])
+    store.open_store(path).close()
+    said = [record.getMessage() for record in caplog.records]
+    steps_said = [it for it in said if "is brought to version" in it]
+    assert steps_said == [f"{path}: the database is brought to version {schema.VERSION}: step {number} of {schema.VERSION - 7}"
+                          for number in range(1, schema.VERSION - 6)]
+    assert sum("the step goes on since" in it for it in said) > 10
+
+
+def test_a_power_cut_behind_a_kill(house: House, tmp_path: Path) -> None:
+    """What a service that was killed committed may stand in memory alone: the next one has all of it stand on the disk before it sends the
+    downlinks that it finds there, so that no counter is free again after a power cut."""
+    if not shutil.which("strace"):
+        pytest.skip("strace isn't there")
+
+    def commit() -> None:
+        # (a commit whose sync didn't come any more)
+        with closing(store.connect(house.config.database)) as database:
+            database.execute("pragma synchronous = off")
+            database.execute("insert into outbox (receiver, address, down, frame, command, made) values ('attic', ?, 1, '00', 1, ?)",
+                             (house.meters[0].name, time.time()))
+            os._exit(9)
+    house.database.close()
+    child = Child(tmp_path / "log", commit)
+    until(lambda: not child.is_running())
+    config = tmp_path / "config.toml"
+    config.write_text(f'folder = "{house.config.folder}"\n[programs]\nsteps = "{TOP}/tests/reference/steps"\n'
+                      f'[receivers.attic]\ncommand = "cat"\nformat = "hex"\ndownlinks = "{house.sent}"\n')
+    trace = tmp_path / "trace"
+    words = ["strace", "-f", "-y", "-e", "trace=fsync,fdatasync,openat", "-o", str(trace), sys.executable, "-m", "wmbus_service", "--config",
+             str(config), "run"]
+    with started(words, cwd=TOP / "service", stderr=subprocess.DEVNULL, start_new_session=True) as process:
+        try:
+            until(lambda: house.sent.exists() and house.sent.read_text() == "D 00\n")
+        finally:
+            os.killpg(process.pid, signal.SIGKILL)
+    calls = trace.read_text().splitlines()
+    sent = next(number for number, call in enumerate(calls) if f'"{house.sent}"' in call and "O_APPEND" in call)
+    assert any("sync(" in call and "wmbus.db-wal>" in call for call in calls[:sent])
 
 
 def test_retention_beside_lines(house: House) -> None:

@@ -125,7 +125,21 @@ def test_an_installation_under_a_strict_umask(tmp_path: Path) -> None:
     """Whatever the umask of who installs is, as 077 of root's on many machines, the service's user can read all and start the programs."""
     run(["sh", "-c", f"umask 077; exec sh {TOP}/service/install {tmp_path}/root"])
     found = list((tmp_path / "root").rglob("*"))
-    assert len(found) > 100
+    assert len(found) > 60
     for path in found:
         wanted = 0o755 if path.is_dir() or os.access(path, os.X_OK) else 0o644
         assert path.stat().st_mode & 0o777 == wanted, path
+
+
+def test_an_installation_reads_no_source_test_or_document(tmp_path: Path) -> None:
+    """What an earlier release had of these goes, and page and demo find all their words and makers of messages without them."""
+    library = tmp_path / "usr/lib/wmbus"
+    for name in ("second/tests/reference", "tests/checks", "docs", "crates/meter_label/src"):
+        (library / name).mkdir(parents=True)
+    run(["sh", TOP / "service/install", tmp_path])
+    assert sorted(it.name for it in library.iterdir() if it.is_dir()) == ["readings", "telegrams", "wmbus_service"]
+    asked = ("import wmbus_service.page.app, wmbus_service.made_building as building, wmbus_service.page.shared as shared;"
+             "print(shared.type_of('9315785634123303'), 'key' in shared.row_of('mac').to_do, len(building.Building(10**9, 1).meters),"
+             "sorted({it.__file__.split('/')[-2] for it in (building.frames, building.messages)}))")
+    ran = run(["/usr/bin/python3", "-B", "-c", asked], cwd=tmp_path, env={"PYTHONPATH": str(library), "PATH": os.environ["PATH"]})
+    assert ran.stdout == "gas True 12 ['telegrams']\n", ran.stderr

@@ -12,15 +12,17 @@ import subprocess
 import tracemalloc
 from contextlib import closing, suppress
 from pathlib import Path
+from typing import Any
 
 import pytest
 from wmbus_service import exporting, retention, schema, sensors, store
 from wmbus_service.config import Keep
 from wmbus_service.page import looks, radios, reading, views
+from wmbus_service.page.house import HouseDoor
 from wmbus_service.status import figures, status
 
-import frames
-import messages
+from telegrams import frames
+from telegrams import messages
 from readings import service_tables
 from readings.used import hour_of
 from .kill import TOP
@@ -254,11 +256,55 @@ def test_what_commands_cost(page: PageHouse) -> None:
     assert len(steps) * 100 < 20_000
 
 
+def many_meters(page: PageHouse, count: int) -> None:
+    """So many more meters with a reading each, but for each tenth."""
+    with store.transaction(page.house.database):
+        for number in range(count):
+            address = f"9315{number:08d}0107"
+            page.house.database.execute("insert into meter (address, place, name, block) values (?, ?, ?, '')",
+                                        (address, 100 + number, f"flat {number}"))
+            if number % 10:
+                page.house.database.execute("insert into reading (id, line, address, counter, moment, more, made)"
+                                            " values (?, ?, ?, 1, ?, 0, ?)", (number, number, address, NOW - 60, NOW - 60))
+                page.house.database.execute("insert into record values (?, 0, 'volume', 'm3', -3, '7', 'instantaneous', 0, 0, 0, '', '')",
+                                            (number,))
+
+
+def test_many_meters(page: PageHouse, monkeypatch: pytest.MonkeyPatch) -> None:
+    """The meters of a great house stand on several pages, each as cheap as one of few meters; all of them are found, counted, looked at."""
+    many_meters(page, 3000)
+    statements: list[str] = []
+    opened = HouseDoor.opened
+
+    def counted(door: HouseDoor) -> Any:
+        database = opened(door)
+        assert isinstance(database, sqlite3.Connection)
+        database.set_trace_callback(statements.append)
+        return database
+    monkeypatch.setattr(HouseDoor, "opened", counted)
+    client, titles = page.client(), []
+    for number in range(1, 18):
+        text = client.get(f"/?page={number}").text
+        titles += re.findall(r'<th scope="row"><a href="/meters/([0-9a-f]{16})"', text)
+        assert len(text) < 300_000
+        assert (">further meters</a>" in text) is (number < 16) and ("Earlier meters" in text) is (1 < number < 17)
+    assert titles == page.house.all("select address from meter order by place")
+    assert "There are no further meters" in text and "2700 of 3003" in text and "And 206 more" in text
+    assert len(statements) < 17 * 200 * 6
+    # (one of ten and those of the house weren't heard, nor were two receivers, and the service doesn't run)
+    told = client.get("/api/overview?page=16").json
+    assert told and (len(told["meters"]), told["counts"]["meters"], told["looks_count"]) == (3, 3003, 306)
+    by_silence = client.get("/meters?q=flat&order=silence&page=2").text
+    assert by_silence.count("not heard") == 100 and "q=flat" in by_silence and "order=silence" in by_silence
+    for wrong in ("0", "-1", "x", "1" * 9, "٣"):
+        assert client.get(f"/?page={wrong}").status_code == 400
+
+
 def test_months_of_days_alone(page: PageHouse) -> None:
     """Months whose readings are gone are counted by the last values of their days."""
     address = page.addresses[0]
     for day, litres in (("2026-09-30", 100), ("2026-10-15", 150), ("2026-10-31", 190), ("2026-11-30", 260)):
-        page.write("insert into daily values (?, ?, 'volume', 'm3', -3, ?, 'instantaneous', 0, 0, 0, '')", address, day, str(litres))
+        page.day(address, day, str(litres))
     page.volume(address, NOW - 60, 400)
     told = page.client().get(f"/api/meters/{address}").json
     assert told

@@ -7,6 +7,7 @@ from pathlib import Path
 import pytest
 from wmbus_service.config import Page
 from wmbus_service.page import serving
+from wmbus_service.tool_modules import version
 from wmbus_service.trouble import Trouble
 
 from .page_house import HOUR, TOKEN, PageHouse, entered, forms_word, page_fixture  # noqa: F401
@@ -29,6 +30,43 @@ def test_without_a_token_it_only_reads(page: PageHouse) -> None:
     assert page.house.all("select count(*) from command") == [0]
 
 
+def test_leave(page: PageHouse) -> None:
+    """Who leaves has left on the server: a copy of the cookie, as somebody may have it, is of no use any more."""
+    app = page.page(TOKEN)
+    client, word = entered(app)
+    copied = app.test_client()
+    assert client.cookie_jar is not None
+    (cookie,) = [it for it in client.cookie_jar if it.name == "wmbus"]
+    copied.set_cookie("localhost", "wmbus", cookie.value or "")
+    command = {"forms": word, "payload": "01", "id": "a"}
+    assert copied.post(f"/meters/{page.addresses[0]}/commands", data=command).status_code == 303
+    assert client.post("/leave", data={"forms": word}).status_code == 303
+    for each in (client, copied):
+        assert each.post(f"/meters/{page.addresses[0]}/commands", data={**command, "id": "b"}).status_code == 403
+    assert page.house.all("select id from command") == ["a"]
+    assert entered(app)[0].post("/leave", data={}).status_code == 403
+
+
+def test_wrong_tokens(page: PageHouse, caplog: pytest.LogCaptureFixture) -> None:
+    """After five wrong tokens an address waits for a minute, with the right one too; the log says from where they came, and has no token."""
+    now, app = [NOW], page.page(TOKEN)
+    app.config.update(CLOCK=lambda: now[0])
+    client = app.test_client()
+    word = forms_word(client.get("/enter").text)
+
+    def given(token: str, address: str = "10.0.0.1") -> int:
+        return client.post("/enter", data={"forms": word, "token": token}, environ_base={"REMOTE_ADDR": address}).status_code
+    assert [given("a wrong one of many signs") for _ in range(7)] == [403] * 5 + [429] * 2
+    assert given(TOKEN) == 429 and given("another", "10.0.0.2") == 403
+    assert caplog.text.count("a wrong token came from 10.0.0.1") == 5 and "many signs" not in caplog.text
+    now[0] += 61
+    assert given("a wrong one") == 403 and given(TOKEN) == 303
+    for number in range(2000):
+        given("x", f"10.1.{number // 200}.{number % 200}")
+    wrong = app.config["WRONG"]
+    assert len(wrong.moments) == 1000 and caplog.text.count("a wrong token came") < 70
+
+
 def test_queue_and_cancel(page: PageHouse) -> None:
     """A command that is queued waits for a session, is shown with its state, and can be cancelled."""
     address = page.addresses[0]
@@ -37,8 +75,12 @@ def test_queue_and_cancel(page: PageHouse) -> None:
     assert "Command valve waits for the next session" in given.text and "Cancel valve" in given.text
     assert page.house.all("select id, address, kind, payload, state, made from command") == [
         ("valve", address, "send", "0102ff", "waiting", NOW)]
-    again = client.post(f"/meters/{address}/commands", data={"forms": word, "payload": "03", "id": "valve"}, follow_redirects=True)
-    assert "was taken before" in again.text and page.house.all("select payload from command") == ["0102ff"]
+    again = client.post(f"/meters/{address}/commands", data={"forms": word, "payload": "0102ff", "id": "valve"}, follow_redirects=True)
+    assert "was taken before" in again.text
+    for meter, payload in ((address, "03"), (page.addresses[1], "0102ff")):
+        other = client.post(f"/meters/{meter}/commands", data={"forms": word, "payload": payload, "id": "valve"}, follow_redirects=True)
+        assert other.status_code == 400 and "its id was used for another command" in other.text
+    assert page.house.all("select payload, asked_by from command") == [("0102ff", "the page")]
     given = client.post(f"/meters/{address}/commands/cancel", data={"forms": word, "id": "valve"}, follow_redirects=True)
     assert "Command valve is cancelled" in given.text and page.house.all("select state from command") == ["cancelled"]
     page.write("update command set state = 'sent', number = 1")
@@ -201,7 +243,7 @@ def test_two_pages_of_a_machine(page: PageHouse) -> None:
 
 
 def test_elsewhere(page: PageHouse) -> None:
-    """Bound elsewhere, nothing is read without the token, and the session's cookie goes over TLS alone."""
+    """Bound elsewhere, nothing is read without the token, nor which release this is, and the session's cookie goes over TLS alone."""
     app = page.page(TOKEN, is_elsewhere=True)
     client = app.test_client()
     for path in ("/", f"/meters/{page.addresses[0]}", "/receivers", "/nothing"):
@@ -210,6 +252,8 @@ def test_elsewhere(page: PageHouse) -> None:
         assert client.get(path).status_code == 403
     given = client.get("/enter")
     assert given.status_code == 200 and "Secure" in given.headers["Set-Cookie"]
+    release = f"wmbus {version()}."
+    assert release in page.page().test_client().get("/").text and release not in given.text
     wrong = client.post("/enter", data={"forms": "x", "token": TOKEN})
     assert wrong.status_code == 403 and "entered" not in str(wrong.headers.get("Set-Cookie"))
 

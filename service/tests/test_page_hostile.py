@@ -69,7 +69,8 @@ def hostile(page: PageHouse) -> None:
                " values (?, ?, 'send', ?, 'refused', ?, ?, ?)", MARKUP, address, MARKUP, MARKUP, NOW, NOW)
     page.write("insert into outbox (receiver, address, down, frame, command, made, missed) values (?, ?, 1, ?, 1, ?, ?)",
                MARKUP, address, MARKUP, NOW, MARKUP)
-    page.write("insert into daily values (?, '2026-09-30', 'mass', 'kg', 60, ?, 'instantaneous', 0, 0, 0, '')", address, "9" * 5000)
+    page.write("insert into daily values (?, '2026-09-30', 'mass', 'kg', 60, ?, 'instantaneous', 0, 0, 0, '', ?, ?)", address, "9" * 5000,
+               MARKUP, int(NOW) - 100 * DAY)
 
 
 def test_markup(page: PageHouse) -> None:

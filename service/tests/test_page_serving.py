@@ -328,6 +328,82 @@ def test_slow_connections(page: PageHouse, tmp_path: Path, is_with_tls: bool) ->
         assert len(slow) > serving.THREADS and "Traceback" not in it.said()
 
 
+def answered(port: int, request: bytes, trust: ssl.SSLContext | None) -> bytes:
+    """What a request of any bytes is answered, up to the connection's end."""
+    with socket.create_connection(("127.0.0.1", port), PATIENCE) as plain:
+        opened = trust.wrap_socket(plain, server_hostname="127.0.0.1") if trust else plain
+        with opened, suppress(OSError):
+            opened.sendall(request)
+            opened.settimeout(PATIENCE)
+            answer = b""
+            while piece := opened.recv(65_536):
+                answer += piece
+            return answer
+    return b""
+
+
+# ways out of the page's folders, and lines of a head within words of an address, a form and a header
+OUTSIDE = [b"/static/../../../wmbus.db", b"/static/..%2f..%2f..%2fetc%2fpasswd", b"/static/%2e%2e/%2e%2e/etc/passwd", b"/static//etc/passwd",
+           b"/static/....//....//etc/passwd", b"/static/..\\..\\etc\\passwd", b"/static/%252e%252e/etc/passwd", b"/../../../../etc/passwd",
+           b"/static/page.css%00.html", b"/meters/..%2f..%2fwmbus.db", b"//etc/passwd", b"file:///etc/passwd", b"/static/%c0%ae%c0%ae/etc/passwd",
+           b"/meters/%2e%2e/readings.csv", b"/common.css/../../etc/passwd", b"http://elsewhere.example/etc/passwd"]
+LINES = [b"/meters?q=a%0d%0aSet-Cookie:%20stolen=1", b"/?retired=1%0d%0aSet-Cookie:%20stolen=1", b"/%0d%0aSet-Cookie:%20stolen=1",
+         b"/meters/%0d%0aSet-Cookie:%20stolen=1/readings.csv", b"/readings.csv?from=%0d%0aSet-Cookie:%20stolen=1",
+         b"/meters?order=%E5%98%8A%E5%98%8DSet-Cookie:%20stolen=1", b"/enter?next=http://elsewhere.example/%0d%0aLocation:%20x"]
+
+
+@pytest.mark.parametrize("is_with_tls", [False, True])
+def test_ways_out_of_the_page(page: PageHouse, tmp_path: Path, is_with_tls: bool) -> None:
+    """No address leads to a file that isn't the page's, no word puts a line into the head of an answer, and none leads elsewhere."""
+    words, trust = with_tls(tmp_path) if is_with_tls else ("port = 0\n", None)
+    with served(page, words + with_token(tmp_path)) as it:
+        port = it.port()
+        for path in OUTSIDE + LINES:
+            for more in (b"", b"X-Forwarded-Host: elsewhere.example\r\n", b"X-Original-URL: /etc/passwd\r\nX-Rewrite-URL: /etc/passwd\r\n"):
+                answer = answered(port, b"GET " + path + b" HTTP/1.1\r\nHost: 127.0.0.1\r\n" + more + b"Connection: close\r\n\r\n", trust)
+                head, _, body = answer.partition(b"\r\n\r\n")
+                assert re.match(rb"HTTP/1.[01] (200|303|400|403|404|405) ", head), (path, head)
+                assert b"root:" not in body and b"SQLite format" not in body and b"stolen=1\r\n" not in head + b"\r\n", (path, answer)
+                assert not re.search(rb"(?im)^(set-cookie: stolen|location: (?!/enter\r?$))", head), (path, head)
+                assert path in LINES or head[9:12] != b"200" or is_with_tls and b"<h1>" in body, (path, head)
+        # (a line of the head within the name of the host, and one that is cut in two)
+        for host in (b"127.0.0.1\r\nSet-Cookie: stolen=1", b"127.0.0.1\r\n Set-Cookie: stolen=1", b"127.0.0.1:80\rX: y"):
+            assert b"stolen" not in answered(port, b"GET /meters HTTP/1.1\r\nHost: " + host + b"\r\nConnection: close\r\n\r\n", trust)
+        assert "Traceback" not in it.said() and TOKEN not in it.said()
+
+
+@pytest.mark.parametrize("is_with_tls", [False, True])
+def test_big_bodies(page: PageHouse, tmp_path: Path, is_with_tls: bool) -> None:
+    """A body that is said to have 10 GB, or comes so in chunks, isn't taken, takes no memory and keeps nobody else from the page."""
+    words, trust = with_tls(tmp_path) if is_with_tls else ("port = 0\n", None)
+    with served(page, words + with_token(tmp_path)) as it:
+        port, head = it.port(), b"POST /enter HTTP/1.1\r\nHost: 127.0.0.1\r\nContent-Type: application/x-www-form-urlencoded\r\n"
+        for length, body in ((10 ** 10, b"token=" + b"a" * 4_000_000), (-1, b""), (10 ** 30, b"a"), (70_000, b"token=" + b"a" * 69_994)):
+            answer = answered(port, head + b"Content-Length: %d\r\n\r\n" % length + body, trust)
+            assert not answer or re.match(rb"HTTP/1.[01] (400|403|413) ", answer), (length, answer[:200])
+        chunk = b"10000\r\n" + b"a" * 65_536 + b"\r\n"
+        answer = answered(port, head + b"Transfer-Encoding: chunked\r\n\r\n" + chunk * 100, trust)
+        assert not answer or re.match(rb"HTTP/1.[01] (400|403|413) ", answer), answer[:200]
+        with open(f"/proc/{it.process.pid}/status", encoding="ascii") as told:
+            (peak,) = [int(line.split()[1]) for line in told if line.startswith("VmHWM")]
+        assert peak < 150_000
+        assert ("<h1>Enter</h1>" if trust else "All meters") in fetched(it, trust)
+
+
+def test_half_requests(page: PageHouse) -> None:
+    """Connections whose requests never come whole, many times as many as there are places, hold up nobody: who asks is answered before the
+    time of one of them is over, without TLS too."""
+    with served(page, "port = 0\n") as it, ExitStack() as held:
+        port = it.port()
+        fetched(it)
+        for number in range(300):
+            opened = held.enter_context(socket.create_connection(("127.0.0.1", port), PATIENCE))
+            opened.sendall(b"GET / HTTP/1.1\r\nHost: 127.0.0.1\r\n" if number % 2 else b"")
+        begin = time.monotonic()
+        assert "All meters" in fetched(it)
+        assert time.monotonic() - begin < 0.8 * serving.SECONDS
+
+
 def test_a_reader_that_pauses(monkeypatch: pytest.MonkeyPatch) -> None:
     """Who takes an answer may pause for longer than a request has to come, as in a pager, and gets all of it."""
     monkeypatch.setattr(serving, "SECONDS", 0.5)

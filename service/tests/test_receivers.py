@@ -7,23 +7,29 @@ import io
 import json
 import os
 import pty
+import re
 import shutil
 import signal
 import socket
+import subprocess
+import sys
 import threading
 import tty
+from collections.abc import Callable
 from contextlib import suppress
 from pathlib import Path
+from typing import Any
 
 import pytest
-from wmbus_service import receiving
+from wmbus_service import receiving, recorded
 from wmbus_service.checking import UNIT_GROUPS, look_at_downlinks, look_at_receiver, tried
 from wmbus_service.config import Config, Programs, Receiver
 from wmbus_service.receiving import PROFILES, Receiving, feed_of
+from wmbus_service.store import prepare_folder
 from wmbus_service.trouble import Trouble
 
 from .kill import TOP, Child, program
-from .processes import PATIENCE, run, until
+from .processes import PATIENCE, run, started, until
 from .test_operation import NOBODY, as_root
 
 # a telegram of examples/gas.rx as each of them prints it
@@ -163,9 +169,76 @@ def test_place_that_can_be_none(words: list[str], capsys: pytest.CaptureFixture[
 
 
 def test_file(tmp_path: Path) -> None:
-    """A file is heard once."""
-    (tmp_path / "recorded file").write_text(f"{telegram_of(FRAME)}\n")
-    Heard(tmp_path, Receiver(profile="file", file=str(tmp_path / "recorded file"), format="hex")).judge()
+    """A file is heard once, however often its receiver is started, also where its lines were taken from the spool; with another content it
+    is another one."""
+    path = tmp_path / "recorded file"
+    path.write_text(f"{telegram_of(FRAME)}\n")
+    told = Receiver(profile="file", file=str(path), format="hex")
+    Heard(tmp_path, told).judge()
+    for is_taken in (False, True):
+        for spooled in (tmp_path / "wmbus/spool").glob("*.lines") if is_taken else ():
+            spooled.unlink()
+        again = Heard(tmp_path, told)
+        until(lambda heard=again, count=1 + is_taken: heard.log.read_text().count("was heard before") == count)  # type: ignore[misc]
+        assert again.child.end(signal.SIGTERM) == 0 and again.text().count("\n") == (not is_taken)
+    path.write_text(f"{telegram_of(FRAME)}\n" * 2)
+    other = Heard(tmp_path, told)
+    until(lambda: other.text().count("\n") == 2)
+    assert other.child.end(signal.SIGTERM) == 0
+
+
+@pytest.mark.parametrize("step", range(1, 8))
+def test_a_file_whose_receiver_is_killed(tmp_path: Path, monkeypatch: pytest.MonkeyPatch, step: int) -> None:
+    """At whatever step of its first start the receiver is killed: at the next its lines are in the spool once."""
+    path, config = tmp_path / "recorded", Config(folder=tmp_path / "wmbus", programs=Programs(line_feed=program("line_feed")), receivers={
+        "attic": Receiver(profile="file", file=str(tmp_path / "recorded"), format="hex")})
+    path.write_text(f"{telegram_of(FRAME)}\n" * 3)
+    prepare_folder(config.folder)
+    left = [step]
+
+    def dies(inner: Callable[..., Any]) -> Callable[..., Any]:
+        def work(*given: Any, **named: Any) -> Any:
+            left[0] -= 1
+            if not left[0]:
+                os._exit(9)
+            return inner(*given, **named)
+        return work
+    with monkeypatch.context() as patches:
+        for owner, name in ((recorded, "sync"), (recorded, "sync_names"), (Path, "rename"), (subprocess, "Popen"), (json, "dump")):
+            patches.setattr(owner, name, dies(getattr(owner, name)))
+        child = Child(tmp_path / "log", lambda: Receiving(config, "attic")._hear_recorded(path))
+        until(lambda: not child.is_running())
+        assert child.status == 9, (tmp_path / "log").read_text()
+    Receiving(config, "attic")._hear_recorded(path)
+    Receiving(config, "attic")._hear_recorded(path)
+    lines = "".join(it.read_text() for it in config.spool.glob("*.lines"))
+    assert lines.count(FRAME) == 3 == lines.count("\n")
+
+
+def test_a_spool_file_that_is_deleted(tmp_path: Path) -> None:
+    """A receiver whose file is deleted writes into a new one: what comes from then on is there, also the line of which a part had come."""
+    os.mkfifo(tmp_path / "radio")
+    heard = Heard(tmp_path, Receiver(command=f"cat {tmp_path}/radio", format="hex"))
+    telegram = telegram_of(FRAME)
+    try:
+        with open(tmp_path / "radio", "w", encoding="ascii", buffering=1) as radio:
+            for number in range(1, 4):
+                radio.write(f"{telegram}\n{telegram[:20]}")
+                radio.flush()
+                until(lambda: heard.text().endswith(f"{FRAME}\n"))
+                for path in heard.config.spool.glob("*.lines"):
+                    path.unlink()
+                until(lambda: len(list(heard.config.spool.glob("*.lines"))) == 1)
+                assert not heard.text()
+                radio.write(f"{telegram[20:]}\n")
+                until(lambda: heard.text().endswith("\n"))
+                assert heard.text().count(FRAME) == 1 == heard.text().count("\n"), number
+                for path in heard.config.spool.glob("*.lines"):
+                    path.unlink()
+                until(lambda: len(list(heard.config.spool.glob("*.lines"))) == 1)
+    finally:
+        assert heard.child.end(signal.SIGTERM) == 0, heard.log.read_text()
+    assert heard.log.read_text().count("begins another one") == 6
 
 
 def test_a_program_that_hangs(tmp_path: Path, monkeypatch: pytest.MonkeyPatch) -> None:
@@ -321,6 +394,17 @@ def test_a_line_that_is_written_last(tmp_path: Path) -> None:
     assert [path.read_text() for path in config.spool.iterdir()] == ["a line\n"]
 
 
+def test_a_program_that_says_much(tmp_path: Path) -> None:
+    """A radio's program that writes into its log without end fills no disk, and what it hears goes on; how much was left out is said."""
+    telegram = telegram_of(FRAME)
+    noisy = "i=0; while [ $i -lt 20000 ]; do echo noise $i >&2; i=$((i+1)); done"
+    heard = Heard(tmp_path, Receiver(command=f"{noisy}; head -c 5000000 /dev/zero >&2; echo {telegram}; sleep 60", format="hex"))
+    heard.judge()
+    log = heard.log.read_text()
+    assert "noise 0\n" in log and "noise 59\n" in log and "noise 60\n" not in log and len(log) < 100_000
+    assert re.search(r"attic: 3\d{4} further lines of its program's log were left out", log), log[-2000:]
+
+
 def test_two_writers_of_a_receiver(tmp_path: Path) -> None:
     """Each start has a file of its own, whose number is above all that are there."""
     numbers = []
@@ -334,6 +418,44 @@ def test_two_writers_of_a_receiver(tmp_path: Path) -> None:
 
 
 @pytest.mark.skipif(shutil.which("systemd-analyze") is None, reason="systemd-analyze isn't there")
+def calls_of(group: str) -> set[str]:
+    """The calls of a group of systemd's, with those of the groups in it."""
+    words = [line.strip() for line in run(["systemd-analyze", "syscall-filter", group]).stdout.splitlines()[1:]]
+    told = [it for it in words if it and not it.startswith("#")]
+    return {it for it in told if it[0] != "@"}.union(*(calls_of(it) for it in told if it[0] == "@"))
+
+
+@pytest.mark.parametrize("profile", ["command", "tcp", "file"])
+def test_calls_of_a_receiver(tmp_path: Path, profile: str) -> None:
+    """A receiver with all that it starts makes no call that its unit's filter refuses."""
+    if not shutil.which("strace") or not shutil.which("systemd-analyze"):
+        pytest.skip("strace or systemd-analyze isn't there")
+    unit = (TOP / "service/systemd/wmbus-receiver@.service").read_text()
+    assert "\nSystemCallFilter=@system-service\n" in unit and "\nSystemCallErrorNumber=EPERM\n" in unit
+    telegram, trace, config = telegram_of(FRAME), tmp_path / "trace", tmp_path / "config.toml"
+    (tmp_path / "recorded").write_text(f"{telegram}\n")
+    with socket.create_server(("127.0.0.1", 0)) as server:
+        def serve() -> None:
+            with suppress(OSError):
+                opened, _ = server.accept()
+                opened.sendall(f"{telegram}\n".encode())
+                opened.recv(1)
+        threading.Thread(target=serve, daemon=True).start()
+        words = {"command": f'command = "echo {telegram}; sleep 60"', "file": f'profile = "file"\nfile = "{tmp_path}/recorded"',
+                 "tcp": f'profile = "tcp"\nhost = "127.0.0.1"\nport = {server.getsockname()[1]}'}[profile]
+        config.write_text(f'folder = "{tmp_path}/wmbus"\n[programs]\nline_feed = "{program("line_feed")}"\n[receivers.attic]\n{words}\n'
+                          'format = "hex"\n')
+        with started(["strace", "-f", "-o", str(trace), sys.executable, "-m", "wmbus_service", "--config", str(config), "receive", "attic"],
+                     cwd=TOP / "service", stderr=subprocess.DEVNULL) as process:
+            until(lambda: any(it.stat().st_size for it in (tmp_path / "wmbus/spool").glob("*.lines")))
+            # (strace passes none on)
+            child = int(run(["pgrep", "-P", str(process.pid)]).stdout.split()[0])
+            os.kill(child, signal.SIGTERM)
+            until(lambda: process.poll() is not None)
+    made = set(re.findall(r"^\d+ +([a-z0-9_]+)\(", trace.read_text(), re.MULTILINE))
+    assert "execve" in made and made <= calls_of("@system-service"), made - calls_of("@system-service")
+
+
 def test_units(tmp_path: Path) -> None:
     """systemd takes the units."""
     for path in (TOP / "service" / "systemd").iterdir():

@@ -23,7 +23,7 @@ from wmbus_service.session import Sessions
 from wmbus_service.spool import CHUNK, Spool, Spooled, put_places
 from wmbus_service.trouble import Trouble
 
-import messages
+from telegrams import messages
 from readings import programs
 from . import stand_in
 from .meters import Meter, line_of, next_telegrams, payload_of, roster_of, some_meters
@@ -457,7 +457,11 @@ def test_commands(house: House) -> None:
     meter = house.meters[0]
     for number in range(10):
         assert put_command(house.database, f"c{number}", meter.name, f"0{number}", NOW)
-    assert not put_command(house.database, "c0", meter.name, "99", NOW)
+    (payload,) = house.all("select payload from command where id = 'c0'")
+    assert not put_command(house.database, "c0", meter.name.upper(), payload, NOW)
+    for other, told in ((meter, "99"), (house.meters[1], payload)):
+        with pytest.raises(Trouble, match="command c0: its id was used for another command"):
+            put_command(house.database, "c0", other.name, told, NOW)
     house.hear()
     assert house.all("select id from command where state = 'refused'") == ["c8", "c9"]
     house.spool(house.whole(meter, access=0x84))

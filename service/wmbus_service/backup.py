@@ -10,7 +10,8 @@ from collections.abc import Sequence
 from contextlib import closing, suppress
 from pathlib import Path
 
-from . import schema, store
+from . import begun, schema, store
+from .begun import HIGHEST as HIGHEST
 from .commands import OPEN
 from .config import Config, words_of
 from .memory_files import memory_files, path_of
@@ -20,7 +21,6 @@ from .spool import sync
 from .steps import MOST_METERS, ProgramFailed, run_steps, state_text
 from .trouble import Trouble
 
-HIGHEST = (1 << 32) - 1
 SMALLER = "take a smaller margin"
 
 
@@ -79,7 +79,7 @@ def restore(config: Config, source: Path, margin: int) -> int:
         return _restore_over(config, source, beside, margin)
     finally:
         # (where it isn't put back)
-        for name in ("restored.db", "restored.db-wal", "restored.db-shm"):
+        for name in ("restored.db", "restored.db-wal", "restored.db-shm", "restored.db.begun"):
             (config.folder / name).unlink(missing_ok=True)
 
 
@@ -93,6 +93,7 @@ def _restore_over(config: Config, source: Path, beside: Path, margin: int) -> in
     with closing(store.open_store(beside)) as database:
         with store.transaction(database):
             count = raise_counters(config, database, margin)
+            raise_floor(config.database, database, margin)
             _give_up(config, database, time.time())
         _judge(config, database)
         database.execute("pragma journal_mode = delete")
@@ -124,14 +125,37 @@ def raise_counters(config: Config, database: sqlite3.Connection, margin: int) ->
     return len(rows)
 
 
+def raise_floor(path: Path, database: sqlite3.Connection, margin: int) -> None:
+    """Has meters that are added from now on begin above the counters that may have been used since the copy, or under a database that was
+    lost: one that isn't known any more may be added again."""
+    floor = max(begun.floor_of(path), int(store.setting(database, "floor") or 0)) + margin
+    begun.put_mark(path, floor)
+    store.set_setting(database, "floor", str(floor))
+
+
+def begin_lost(config: Config, margin: int) -> None:
+    """Begins a database in the place of one that was lost, whose meters' counters begin above all that may have been used."""
+    if not begun.mark_of(config.database).exists():
+        raise Trouble(config.folder, "there was no database here", "`wmbus-service add` or `wmbus-service run` makes one")
+    try:
+        store.open_store(config.database).close()
+    except begun.Lost:
+        pass
+    else:
+        raise Trouble(config.database, "the database is there, and goes on", "where it is to be replaced, take `wmbus-service restore`")
+    begun.put_away(config.database)
+    # (first the mark: whatever happens, the next one begins above it)
+    floor = begun.floor_of(config.database) + margin
+    begun.put_mark(config.database, floor)
+    with closing(store.open_store(config.database, is_new=True, is_lost=True)) as database:
+        store.set_setting(database, "floor", str(floor))
+
+
 def raised_by(block: str, margin: int) -> str:
     """A meter's block with a higher counter."""
     line, _, rest = block.partition("\n")
     fields = line.split(" ")
-    down = int(fields[DOWN_PLACE]) + margin
-    if down > HIGHEST:
-        raise Trouble(f"meter {fields[1]}", f"its downlink counter would pass {HIGHEST}, and no command would reach it any more", SMALLER)
-    fields[DOWN_PLACE] = str(down)
+    fields[DOWN_PLACE] = str(begun.raised(int(fields[DOWN_PLACE]), margin, f"meter {fields[1]}"))
     return f"{' '.join(fields)}\n{rest}"
 
 

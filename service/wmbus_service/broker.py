@@ -12,8 +12,8 @@ import sqlite3
 import struct
 import threading
 import time
-from collections.abc import Callable
-from contextlib import closing
+from collections.abc import Callable, Iterator
+from contextlib import closing, contextmanager
 from pathlib import Path
 from typing import Any
 
@@ -25,6 +25,7 @@ from .config import Config, Mqtt
 from .ending import Ending
 from .publications import Publications
 from .trouble import Trouble
+from .troubles import Troubles
 
 log = logging.getLogger("wmbus")
 
@@ -38,8 +39,16 @@ MOST_ADDRESS = 64
 Row = tuple[int, str, str, int]
 
 
+# after so many connections that ended over one message alone it is set aside, and so many of these are kept
+ENDED, MOST_ASIDE = 3, 1000
+
+
 class Lost(Exception):
     """The connection to the broker is no more, and why."""
+
+
+class Silent(Lost):
+    """The broker doesn't answer."""
 
 
 # by what a connection ends; of anything else the log has also where it came from
@@ -49,10 +58,12 @@ FORESEEN = (Lost, OSError, sqlite3.Error, Trouble)
 class Broker(threading.Thread):
     """What goes to the broker and comes from it, whatever a connection ends by."""
 
-    def __init__(self, config: Config, told: Mqtt, ending: Ending) -> None:
+    def __init__(self, config: Config, told: Mqtt, ending: Ending, troubles: Troubles | None = None) -> None:
         super().__init__(name="mqtt", daemon=True)
         self.config, self.told, self.ending = config, told, ending
         self.is_connected = False
+        self.suspect = Suspect()
+        self.troubles = troubles or Troubles(config.folder)
 
     def run(self) -> None:
         """Connections, one after the other."""
@@ -61,18 +72,26 @@ class Broker(threading.Thread):
             began = time.monotonic()
             try:
                 with closing(store.open_store(self.config.database)) as database:
-                    self._serve(self._connection(database), database)
+                    client = self._client(database)
+                    try:
+                        self._begin(client)
+                        self._serve(client, database)
+                    finally:
+                        opened = client.socket()
+                        if isinstance(opened, socket.socket):
+                            opened.close()
             except Exception as fault:
                 if str(fault) != said:
                     log.warning("MQTT: %s:%d: %s; it is tried again", self.told.host, self.told.port, fault,
                                 exc_info=not isinstance(fault, FORESEEN))
                     said = str(fault)
+                self.troubles.tell("MQTT", f"{self.told.host}:{self.told.port}: {fault}")
             self.is_connected = False
             pause = LEAST_PAUSE if time.monotonic() - began > PATIENCE else min(2 * pause, MOST_PAUSE)
             self.ending.wait(pause)
 
-    def _connection(self, database: sqlite3.Connection) -> mqtt.Client:
-        """A connection under the service's name, so that the broker keeps the commands that come while there is none."""
+    def _client(self, database: sqlite3.Connection) -> mqtt.Client:
+        """A client under the service's name, so that the broker keeps the commands that come while there is no connection."""
         told = self.told
         look_at_settings(told)
 
@@ -83,35 +102,78 @@ class Broker(threading.Thread):
                 # (not each broker refuses one)
                 log.warning("MQTT: a message isn't taken, whose topic isn't in UTF-8")
                 return
-            take_message(told, database, topic, message.payload)
+            take_message(told, database, topic, message.payload, bool(message.retain))
 
         client = mqtt.Client(client_id=told.client, clean_session=False)
         client.on_message, client.on_subscribe = heard, subscribed
         client.will_set(f"{told.topic}/status", "offline", 1, True)
-        _connect(told, client)
-        client.subscribe([(f"{told.topic}/command/+", 1), (f"{told.topic}/cancel/+", 1)])
-        client.publish(f"{told.topic}/status", "online", 1, True)
-        self.is_connected = True
-        log.info("MQTT: connected with %s:%d", told.host, told.port)
         return client
+
+    def _begin(self, client: mqtt.Client) -> None:
+        """Connects, and waits until the broker has taken `online`."""
+        told = self.told
+        _connect(told, client)
+        topics = [f"{told.topic}/command/+", f"{told.topic}/cancel/+"]
+        if told.commands:
+            client.subscribe([(topic, 1) for topic in topics])
+        else:
+            # (the broker keeps what was subscribed when they were turned on)
+            client.unsubscribe(topics)
+        online = client.publish(f"{told.topic}/status", "online", 1, True)
+        _until(client, online.is_published, 1)
+        self.is_connected = True
+        self.troubles.over("MQTT")
+        log.info("MQTT: connected with %s:%d", told.host, told.port)
 
     def _serve(self, client: mqtt.Client, database: sqlite3.Connection) -> None:
         """Publishes what waits, and takes what comes, as long as the connection lives."""
-        try:
-            while not self.ending.is_set():
-                rows = database.execute("select id, topic, payload, retain from publication order by id limit ?", (AT_ONCE,)).fetchall()
-                if rows:
+        while not self.ending.is_set():
+            rows = database.execute("select id, topic, payload, retain from publication order by id limit ?",
+                                    (self.suspect.at_once,)).fetchall()
+            if rows:
+                with self.suspect.judged(database, rows):
                     publish(client, rows)
-                    mark_published(database, rows)
-                else:
-                    _turn(client, IDLE)
-            client.publish(f"{self.told.topic}/status", "offline", 1, True)
-            _turn(client, IDLE)
-            client.disconnect()
-        finally:
-            opened = client.socket()
-            if isinstance(opened, socket.socket):
-                opened.close()
+                mark_published(database, rows)
+            else:
+                _turn(client, IDLE)
+        client.publish(f"{self.told.topic}/status", "offline", 1, True)
+        _turn(client, IDLE)
+        client.disconnect()
+
+
+class Suspect:
+    """The message over which a broker, which took the connection and `online`, ends it: it is found by halves, and set aside."""
+
+    def __init__(self) -> None:
+        self.at_once, self.ident, self.times = AT_ONCE, 0, 0
+
+    @contextmanager
+    def judged(self, database: sqlite3.Connection, rows: list[Row]) -> Iterator[None]:
+        """Looks how it goes with some messages."""
+        try:
+            yield
+            self.at_once, self.times = min(AT_ONCE, 2 * self.at_once), 0
+        except Silent:
+            raise
+        except (Lost, OSError) as fault:
+            self._ended(database, rows, fault)
+            raise
+
+    def _ended(self, database: sqlite3.Connection, rows: list[Row], fault: Exception) -> None:
+        if len(rows) > 1:
+            self.at_once = len(rows) // 2
+            return
+        ident, topic, payload, _ = rows[0]
+        self.ident, self.times = ident, self.times + 1 if ident == self.ident else 1
+        if self.times < ENDED:
+            return
+        said = f"the broker ended {ENDED} connections over it ({fault}): look at its log, and at what it takes at most"
+        with store.transaction(database):
+            database.execute("insert into publication_aside (topic, payload, said, made) values (?, ?, ?, ?)",
+                             (topic, payload, said, time.time()))
+            database.execute("delete from publication_aside where id <= (select max(id) from publication_aside) - ?", (MOST_ASIDE,))
+            database.execute("delete from publication where id = ?", (ident,))
+        log.error("MQTT: the message of %d signs under %s is set aside (`wmbus-service status` shows it): %s", len(payload), topic, said)
 
 
 def subscribed(_client: Any, _data: Any, _number: int, granted: tuple[int, ...]) -> None:
@@ -160,7 +222,10 @@ def _password_of(path: str) -> str:
     """The password that stands in a file."""
     try:
         # (editors on Windows put a mark in front)
+        store.look_at_rights(Path(path), 0o600)
         return Path(path).read_text(encoding="utf-8-sig").strip()
+    except FileNotFoundError:
+        raise Trouble(path, "there is no such file", "write the password into it, or leave out mqtt.password_file") from None
     except UnicodeDecodeError:
         raise Trouble(path, "the password isn't in UTF-8", "write it into the file anew") from None
 
@@ -214,7 +279,7 @@ def _until(client: mqtt.Client, answered: Callable[[], int], wanted: int) -> Non
             limit, before = time.monotonic() + PATIENCE, count
         _turn(client, IDLE)
         if time.monotonic() > limit:
-            raise Lost("the broker doesn't answer")
+            raise Silent("the broker doesn't answer")
 
 
 def _turn(client: mqtt.Client, seconds: float) -> None:
@@ -227,16 +292,24 @@ def _turn(client: mqtt.Client, seconds: float) -> None:
         raise Lost(mqtt.error_string(answer))
 
 
-def take_message(told: Mqtt, database: sqlite3.Connection, topic: str, payload: bytes) -> None:
+def take_message(told: Mqtt, database: sqlite3.Connection, topic: str, payload: bytes, is_retained: bool = False) -> None:
     """Takes a command or a cancellation; what can't be taken is answered in words. Only what is committed is acknowledged."""
     kind, _, address = topic.removeprefix(f"{told.topic}/").partition("/")
     if not topic.startswith(f"{told.topic}/") or kind not in ("command", "cancel"):
         # (the broker keeps what was subscribed under the topic of an earlier configuration)
         log.warning("MQTT: a message under %.100r isn't taken: the topic is %s", topic, told.topic)
         return
+    if not told.commands:
+        log.warning("MQTT: a message under %.100r isn't taken: commands by MQTT are off (mqtt.commands)", topic)
+        return
     if set(address) & set("+#\0"):
         # (not each broker refuses one, and nothing can be published under it)
         log.warning("MQTT: a message under %.100r isn't taken: this topic can be none", topic)
+        return
+    if is_retained:
+        # (it would come again with each connection, for years, and not only now is a command meant)
+        log.warning("MQTT: what the broker retains under %.100r isn't taken: a command is published without `retain`; take it away there",
+                    topic)
         return
     # (the answer's topic is longer than this one, and no meter has so long an address)
     address = address[:MOST_ADDRESS]
@@ -244,7 +317,7 @@ def take_message(told: Mqtt, database: sqlite3.Connection, topic: str, payload: 
     try:
         said = json.loads(payload[:MOST_MESSAGE])
         if kind == "command":
-            put_command(database, word_of(said["id"]), address, word_of(said["payload"]), time.time())
+            put_command(database, word_of(said["id"]), address, word_of(said["payload"]), time.time(), "MQTT")
         else:
             cancel_of(database, address, word_of(said["id"]), publications)
     except (ValueError, KeyError, TypeError, RecursionError):

@@ -9,18 +9,23 @@ import shutil
 import sqlite3
 import stat
 import subprocess
+import time
 from collections.abc import Callable, Iterator
 from contextlib import closing, suppress
 from dataclasses import dataclass, replace
+from datetime import timezone
 from pathlib import Path
 
-from . import meters, service, store
+from . import begun, meters, service, store
 from .config import Config, Metrics, Mqtt, Page, Receiver, unproved_words, words_of
+from .local import is_local
 from .receiving import PROFILES, feed_of
 from .steps import ProgramFailed, output_of, run_steps, state_text
 from .trouble import Trouble
 
 LEAST_ROOM = 256 << 20
+# a certificate that ends within so long is to be renewed
+DAY, SOON = 86_400, 14 * 86_400
 NOBODY = "0" * 16
 # what stands in front of a part of a shell's command, and these signs as parts of a word, in quotes or behind a backslash
 BETWEEN = set("|;&(")
@@ -55,8 +60,8 @@ def check(config: Config) -> Iterator[Finding]:
             # (found from the folder in which somebody checks it, and not by the units, which begin in that of the root)
             yield tried(name, lambda name=name: refuse_path(name))  # type: ignore[misc]
     # (who may not look into the folder is told so of the folder, and of the rest what can be told)
-    if os.path.exists(config.database):
-        yield tried(f"database {config.database}", lambda: store.open_store(config.database).close())
+    if os.path.exists(config.database) or os.path.exists(begun.mark_of(config.database)):
+        yield tried(f"database {config.database}", lambda: look_at_database(config.database))
     found = tried(f"program {config.programs.steps}", lambda: look_at_steps(config))
     yield replace(found, note=unproved_words(config.programs.steps))
     programs = config.programs
@@ -71,7 +76,8 @@ def check(config: Config) -> Iterator[Finding]:
         yield tried(f"receiver {name}", lambda name=name, told=told: look_at_feed(config, name, told))  # type: ignore[misc]
         yield tried(f"downlinks of {name}", lambda name=name, told=told: look_at_downlinks(name, told))  # type: ignore[misc]
     if config.mqtt:
-        yield tried(f"MQTT broker {config.mqtt.host}:{config.mqtt.port}", lambda: look_at_broker(config, config.mqtt))
+        found = tried(f"MQTT broker {config.mqtt.host}:{config.mqtt.port}", lambda: look_at_broker(config, config.mqtt))
+        yield replace(found, note=broker_words(config.mqtt))
     if config.metrics:
         yield tried(f"metrics {config.metrics.host}:{config.metrics.port}", lambda: look_at_metrics(config, config.metrics))
     if config.page:
@@ -109,6 +115,36 @@ def look_at_room(folder: Path) -> None:
     free = shutil.disk_usage(folder).free
     if free < LEAST_ROOM:
         raise Trouble(folder, f"only {free >> 20} MiB are free", "make room, or name another folder")
+
+
+def look_at_database(path: Path) -> None:
+    """A database that can't be opened, or whose pages aren't what they have to be."""
+    with closing(store.open_store(path)) as database:
+        (said,) = database.execute("pragma quick_check(1)").fetchone()
+        if said != "ok":
+            raise Trouble(path, f"the database isn't whole: {said}", "put the last backup in its place: wmbus-service restore")
+
+
+def look_at_certificate(path: str, now: float) -> None:
+    """A certificate that has ended, or soon does. (It is named where it can't be read at all by who uses it.)"""
+    from cryptography import x509
+    try:
+        certificate = x509.load_pem_x509_certificate(Path(path).read_bytes())
+    except (OSError, ValueError):
+        return
+    begin, end = (it.replace(tzinfo=timezone.utc).timestamp() for it in (certificate.not_valid_before, certificate.not_valid_after))
+    left = end - now
+    # (one of a few days is renewed later)
+    if left < min(SOON, (end - begin) / 3):
+        ends = f"it ended {-left // DAY:.0f} days ago" if left < 0 else f"it ends in {left // DAY:.0f} days"
+        raise Trouble(path, f"the certificate is of use no more: {ends}" if left < 0 else f"the certificate: {ends}", "have it renewed")
+
+
+def look_at_key(path: str) -> None:
+    """A key of TLS that others may read."""
+    told = Path(path).stat()
+    if told.st_mode & 0o027:
+        raise Trouble(path, "others have rights on it, and whoever has it can be this page", f"chmod 640 {path}, or 600")
 
 
 def look_at_program(command: str) -> None:
@@ -227,7 +263,19 @@ def look_at_broker(config: Config, told: Mqtt | None) -> None:
     """Whether the broker takes a connection."""
     from .broker import try_connection
     assert told
+    if told.authority:
+        look_at_certificate(told.authority, time.time())
     try_connection(told)
+
+
+def broker_words(told: Mqtt) -> str:
+    """What is to be known of a broker that can be used."""
+    words = []
+    if told.password_file and not told.tls and not is_local(told.host):
+        words.append(f"the password goes in the clear to {told.host}, as all that is published: write tls = true under [mqtt]")
+    if told.commands:
+        words.append("who may publish under mqtt.topic sends commands to meters: docs/SERVICE.md has rights for the broker")
+    return "; ".join(words)
 
 
 def look_at_metrics(config: Config, told: Metrics | None) -> None:
@@ -244,3 +292,5 @@ def look_at_page(told: Page | None) -> None:
     servers().look_at_page(told)
     if told.certificate:
         servers().server_with_tls(None, told)
+        look_at_certificate(told.certificate, time.time())
+        look_at_key(told.key or told.certificate)

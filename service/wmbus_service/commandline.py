@@ -11,11 +11,11 @@ import secrets
 import sqlite3
 import sys
 import time
-from collections.abc import Callable, Iterable
-from contextlib import closing
+from collections.abc import Callable, Iterable, Iterator
+from contextlib import closing, contextmanager
 from pathlib import Path
 
-from . import backup, checking, demo, exporting, importing, key_lists, meters, service, store
+from . import backup, begun, checking, demo, exporting, importing, key_lists, meters, service, store
 from .commands import cancel_command, joined, put_command, put_key, waiting_commands, waiting_words
 from .config import Config, Page, Programs, read_config, words_of
 from .printing import leave_unread, open_streams, parsed
@@ -23,10 +23,10 @@ from .publications import Publications
 from .receiving import Receiving
 from .status import status
 from .steps import MOST_METERS
+from .tool_modules import ShowVersion
 from .trouble import Trouble
 
 DONE, TROUBLE = 0, 1
-VERSION = "0.1.0"
 STATUSES = "exit status: 0 all is done or right, 1 something is wrong and was named, 2 faulty words"
 MARGIN = 1000
 MOST_COUNT = 65_535
@@ -68,7 +68,7 @@ def words() -> argparse.ArgumentParser:
     parser = argparse.ArgumentParser(prog="wmbus-service", description=__doc__, epilog=STATUSES)
     parser.add_argument("--config", metavar="FILE", type=Path, default=Path(os.environ.get("WMBUS_CONFIG", "/etc/wmbus/config.toml")),
                         help="the configuration, /etc/wmbus/config.toml where none is named")
-    parser.add_argument("--version", action="version", version=f"wmbus-service {VERSION}")
+    parser.add_argument("--version", action=ShowVersion)
     kinds = parser.add_subparsers(metavar="COMMAND", required=True)
 
     def command(name: str, work: Callable[[argparse.Namespace], int], told: str) -> argparse.ArgumentParser:
@@ -139,6 +139,10 @@ def _data_words(command: Command) -> None:
     made.add_argument("--meter", metavar="METER", type=_text, help="of this meter alone")
     made.add_argument("--since", metavar="SECONDS", type=_moment, default=0, help="from this moment on, in seconds since 1970")
     command("backup", _backup, "copies the database, also while the service runs").add_argument("file", metavar="FILE", type=Path)
+    made = command("begin", _begin, "begins anew where the database is lost and there is no copy, once the service has ended")
+    made.add_argument("--lost", action="store_true", required=True, help="says that there is no copy")
+    made.add_argument("--margin", metavar="N", type=int, default=MARGIN,
+                      help=f"meters' downlink counters begin so much higher, at least by what was ever sent to one ({MARGIN})")
     made = command("restore", _restore, "puts a copy in the place of the database, once the service has ended")
     made.add_argument("file", metavar="FILE", type=Path)
     made.add_argument("--margin", metavar="N", type=int, default=MARGIN,
@@ -320,9 +324,17 @@ def _retire(asked: argparse.Namespace) -> int:
     return DONE
 
 
+def _who() -> str:
+    """Who types, also behind sudo."""
+    try:
+        return f"user {os.environ.get('SUDO_USER') or pwd.getpwuid(os.getuid()).pw_name}"
+    except KeyError:
+        return f"user {os.getuid()}"
+
+
 def _rekey(asked: argparse.Namespace) -> int:
     with _opened(_config(asked)) as database:
-        put_key(database, f"key-{secrets.token_hex(4)}", asked.address, _key(asked.address), time.time())
+        put_key(database, f"key-{secrets.token_hex(4)}", asked.address, _key(asked.address), time.time(), _who())
     print("the next session gives the meter its second key")
     return DONE
 
@@ -337,7 +349,7 @@ def _command(asked: argparse.Namespace) -> int:
         if not asked.address or not asked.payload:
             raise Trouble("the command", "it has no METER or no HEX", "`wmbus-service command --help` shows both")
         ident = f"cli-{secrets.token_hex(4)}" if asked.id is None else asked.id
-        is_new = put_command(database, ident, asked.address, asked.payload, time.time())
+        is_new = put_command(database, ident, asked.address, asked.payload, time.time(), _who())
     print(f"command {ident} waits" if is_new else f"command {ident} was taken before; nothing is sent again")
     return DONE
 
@@ -396,19 +408,33 @@ def _backup(asked: argparse.Namespace) -> int:
     return DONE
 
 
-def _restore(asked: argparse.Namespace) -> int:
+@contextmanager
+def _ended(asked: argparse.Namespace) -> Iterator[Config]:
+    """The configuration of a folder on which no service works, for what changes counters by a margin."""
     config = _config(asked)
     if asked.margin < 0:
-        raise Trouble("restore", "the margin is below 0, and downlink counters would be used twice",
+        raise Trouble(asked.command, "the margin is below 0, and downlink counters would be used twice",
                       "give one above the number of downlinks to one meter since the copy")
     store.prepare_folder(config.folder)
     if service.is_locked(config.folder):
         raise Trouble(config.folder, "a service works on this folder", "end it first: systemctl stop wmbus")
     held = service.lock(config.folder)
     try:
-        count = backup.restore(config, asked.file, asked.margin)
+        yield config
     finally:
         os.close(held)
+
+
+def _begin(asked: argparse.Namespace) -> int:
+    with _ended(asked) as config:
+        backup.begin_lost(config, asked.margin)
+    print(f"begun anew; downlink counters of all meters that are added begin {begun.floor_of(config.database)} higher")
+    return DONE
+
+
+def _restore(asked: argparse.Namespace) -> int:
+    with _ended(asked) as config:
+        count = backup.restore(config, asked.file, asked.margin)
     print(f"restored; downlink counters of {count} meters are {asked.margin} higher, and commands that were open are cancelled")
     return DONE
 

@@ -16,13 +16,13 @@ KEY = re.compile(r"[0-9a-f]{32}")
 OPEN = ("queued", "sent")
 
 
-def put_command(database: sqlite3.Connection, ident: str, address: str, payload: str, now: float) -> bool:
-    """Takes a command for a meter, whose payload goes to it as it is; whether its id is new."""
-    return _put(database, ident, address.lower(), "send", payload_of(ident, payload), now)
+def put_command(database: sqlite3.Connection, ident: str, address: str, payload: str, now: float, asked_by: str = "") -> bool:
+    """Takes a command for a meter, whose payload goes to it as it is, and notes who asked for it; whether its id is new."""
+    return _put(database, ident, address.lower(), "send", payload_of(ident, payload), now, asked_by)
 
 
-def put_key(database: sqlite3.Connection, ident: str, address: str, key: str, now: float) -> bool:
-    """Takes a meter's new second key; whether its id is new."""
+def put_key(database: sqlite3.Connection, ident: str, address: str, key: str, now: float, asked_by: str = "") -> bool:
+    """Takes a meter's new second key, and notes who asked for it; whether its id is new."""
     key, place, address = key_of(f"command {ident}", key), f"meter {address}", address.lower()
     # (who has the meter count anew meanwhile is done before, and this key judged by what was noted then)
     with transaction(database):
@@ -32,7 +32,7 @@ def put_key(database: sqlite3.Connection, ident: str, address: str, key: str, no
         if row:
             # (the second key that it has may be replaced)
             store.set_setting(database, keys_name(address), with_noted(told, row[0]))
-        return _put(database, ident, address, "rekey", key, now)
+        return _put(database, ident, address, "rekey", key, now, asked_by)
 
 
 def payload_of(ident: str, payload: str) -> str:
@@ -60,15 +60,24 @@ def judge_ident(ident: str) -> None:
         raise Trouble("the command", "its id isn't 1 to 64 letters, digits and _ . : -")
 
 
-def _put(database: sqlite3.Connection, ident: str, address: str, kind: str, payload: str, now: float) -> bool:
+def _put(database: sqlite3.Connection, ident: str, address: str, kind: str, payload: str, now: float, asked_by: str) -> bool:
     judge_ident(ident)
     judge_known(database, address, f"command {ident}")
     # (a key goes to no meter, and a command that was taken before isn't taken anew)
     if kind == "send" and not database.execute("select 1 from command where id = ?", (ident,)).fetchone():
         judge_in_service(database, address, f"command {ident}")
-    added = database.execute("insert or ignore into command (id, address, kind, payload, made, changed) values (?, ?, ?, ?, ?, ?)",
-                             (ident, address, kind, payload, now, now))
+    added = database.execute("insert or ignore into command (id, address, kind, payload, made, changed, asked_by)"
+                             " values (?, ?, ?, ?, ?, ?, ?)", (ident, address, kind, payload, now, now, asked_by))
+    if not added.rowcount:
+        _judge_same(database, ident, address, kind, payload)
     return bool(added.rowcount)
+
+
+def _judge_same(database: sqlite3.Connection, ident: str, address: str, kind: str, payload: str) -> None:
+    """An id that was used is taken again for the same command alone, which isn't sent twice. (Of a key that was taken nothing is kept.)"""
+    told = database.execute("select address, kind, payload from command where id = ?", (ident,)).fetchone()
+    if told[:2] != (address, kind) or told[2] != payload and told[2]:
+        raise Trouble(f"command {ident}", "its id was used for another command, and it isn't sent", "give it an id of its own")
 
 
 def waiting_commands(database: sqlite3.Connection, address: str) -> int:

@@ -34,13 +34,12 @@ LACKING = "no `wmbus` that is installed or built for these sources has the comma
 
 @cache
 def steps_program() -> str:
-    """What tells a session step by step: the proved `wmbus steps`, where a `wmbus` that is installed or built has that command, else the
-    second implementation in Python, which isn't proved."""
+    """What tells a session step by step: the proved `wmbus steps`, where a `wmbus` that is installed or built has that command, else, in the
+    repository, the second implementation in Python, which isn't proved and isn't installed."""
     for wmbus in _ready_programs("wmbus"):
         if has_steps(wmbus):
             return f"{shlex.quote(wmbus)} steps"
-    installed = HERE / "second"
-    return str((installed if installed.is_dir() else HERE.parent) / STAND_IN)
+    return str(HERE.parent / STAND_IN)
 
 
 def _ready_programs(name: str) -> Iterator[str]:
@@ -115,6 +114,8 @@ class Mqtt:
     client: str = "wmbus"
     topic: str = "wmbus"
     discovery: str = "homeassistant"
+    # whether commands to meters come by MQTT: who may publish there may send them
+    commands: bool = False
     # so many messages all wait for a broker that is away; of those before the last of each topic; 0 has all wait
     waiting: int = 100_000
 
@@ -252,7 +253,8 @@ def _value_of(name: str, wanted: Any, told: object) -> object:
 def _table_of(name: str, wanted: Any, told: object) -> object:
     """A table of settings, of which none is unknown."""
     if not isinstance(told, dict):
-        raise _Faulty(f"{name} isn't a table")
+        table = name.removesuffix(".")
+        raise _Faulty(f"{table} isn't a table: write [{table}], and its settings below it")
     types_of = typing.get_type_hints(wanted)
     for key in told:
         if key not in types_of:
@@ -271,9 +273,11 @@ def _point(wanted: Any) -> str:
 
 def _named_tables(name: str, wanted: Any, told: object) -> dict[str, object]:
     """Tables under names that their owner chose."""
-    if not isinstance(told, dict):
-        raise _Faulty(f"{name} isn't a table")
-    for key in told:
+    for key, value in told.items() if isinstance(told, dict) else [("", told)]:
+        if not isinstance(value, dict):
+            raise _Faulty(f"{(name + key).removesuffix('.')} isn't a table, and each has one under its own name: write [{name}NAME], and its"
+                          " settings below it")
         if not NAME.fullmatch(key):
             raise _Faulty(f"{name}{key}: a name has 1 to 64 of a-z, 0-9, _ and -")
+    assert isinstance(told, dict)
     return {key: _value_of(f"{name}{key}.", wanted, value) for key, value in told.items()}

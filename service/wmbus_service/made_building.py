@@ -12,8 +12,8 @@ from datetime import datetime
 
 from . import tool_modules  # noqa: F401  (the way to the modules below)
 
-import frames  # isort: skip
-import messages  # isort: skip
+from telegrams import frames  # isort: skip
+from telegrams import messages  # isort: skip
 
 OWN = "4304000000010131"
 HOUR, DAY = 3600, 86_400

@@ -9,7 +9,7 @@ import time
 from collections.abc import Iterator, Sequence
 from pathlib import Path
 
-from . import store
+from . import begun, store
 from .asking import Database
 from .config import Config, words_of
 from .steps import ProgramFailed, run_steps
@@ -97,6 +97,9 @@ def add_meter(database: sqlite3.Connection, fields: list[str], name: str = "") -
     """Adds a meter by the fields of its line of a roster of version 2; a known one stays as it is. Whether it is new."""
     (place,) = database.execute("select coalesce(max(place), 0) + 1 from meter").fetchone()
     address = fields[1].lower()
+    if floor := int(store.setting(database, "floor") or 0):
+        # (a meter of this address may have been known to a database that was lost)
+        fields = [*fields[:DOWN_PLACE], str(begun.raised(int(fields[DOWN_PLACE]), floor, f"meter {address}")), *fields[DOWN_PLACE + 1:]]
     line = " ".join(field.lower() for field in fields)
     added = database.execute("insert or ignore into meter (address, place, name, block) values (?, ?, ?, ?)",
                              (address, place, name, f"{line}\n"))

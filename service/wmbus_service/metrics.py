@@ -1,6 +1,7 @@
 """Metrics in Prometheus' text format, over HTTP on this machine."""
 from __future__ import annotations
 
+import re
 import socket
 import sqlite3
 import threading
@@ -18,6 +19,7 @@ from prometheus_client.registry import Collector
 
 from . import store
 from .config import Config, Metrics
+from .local import is_local
 from .status import oldest_publication
 from .trouble import Trouble
 
@@ -144,12 +146,23 @@ def trouble_of(told: Metrics, fault: Exception) -> Trouble:
     return Trouble(f"metrics {told.host}:{told.port}", f"they can't be served: {fault}", "name another host or port under [metrics]")
 
 
+def under_own_names(told: Metrics, inner: Any) -> Any:
+    """On this machine they are answered under its own names alone, so that no site whose name leads here reads them by a browser."""
+    def answer(environ: dict[str, Any], begin: Any) -> Any:
+        name = re.sub(r":\d+$", "", environ.get("HTTP_HOST", "")).lower()
+        if is_local(told.host) and not is_local(name.removeprefix("[").removesuffix("]")):
+            begin("400 Bad Request", [("Content-Type", "text/plain; charset=utf-8")])
+            return [b"The metrics are served under the names of this machine alone: 127.0.0.1 and localhost.\n"]
+        return inner(environ, begin)
+    return answer
+
+
 def serve_figures(told: Metrics, registry: CollectorRegistry) -> None:
     """Shows metrics at an address of any family."""
     class OfFamily(Server):
         """A server of that family."""
     OfFamily.address_family = family_of(told)
-    server = make_server(told.host, told.port, make_wsgi_app(registry), OfFamily, Asked)
+    server = make_server(told.host, told.port, under_own_names(told, make_wsgi_app(registry)), OfFamily, Asked)
     threading.Thread(target=server.serve_forever, name="metrics", daemon=True).start()
 
 

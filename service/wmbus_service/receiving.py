@@ -14,11 +14,14 @@ import subprocess
 import time
 from contextlib import suppress
 from pathlib import Path
+from typing import BinaryIO, cast
 
 from .config import Config, Receiver, words_of
 from .ending import Ending
+from .noise import Noise
+from .recorded import Recorded
 from .spool import size_of, sync_names
-from .store import prepare_folder
+from .store import READ_ONLY, is_read_only, prepare_folder
 from .trouble import Trouble
 
 log = logging.getLogger("wmbus")
@@ -56,11 +59,20 @@ def feed_of(name: str, told: Receiver) -> tuple[str, str]:
     return command, form
 
 
+def next_name(spool: Path, name: str) -> str:
+    """The name of the receiver's next file."""
+    numbers = [int(found[1]) for path in spool.glob(f"{name}.*.lines") if (found := NUMBER.search(path.name))]
+    return f"{name}.{max(numbers, default=0) + 1:08d}.{time.time_ns()}.lines"
+
+
 def new_file(spool: Path, name: str) -> int:
     """Makes the receiver's next file, whose writers hold a lock on it as long as one of them lives."""
-    numbers = [int(found[1]) for path in spool.glob(f"{name}.*.lines") if (found := NUMBER.search(path.name))]
-    path = spool / f"{name}.{max(numbers, default=0) + 1:08d}.{time.time_ns()}.lines"
-    opened = os.open(path, os.O_WRONLY | os.O_CREAT | os.O_EXCL | os.O_APPEND | os.O_CLOEXEC, 0o600)
+    path = spool / next_name(spool, name)
+    try:
+        opened = os.open(path, os.O_WRONLY | os.O_CREAT | os.O_EXCL | os.O_APPEND | os.O_CLOEXEC, 0o600)
+    except OSError as fault:
+        raise Trouble(path, f"the receiver's next file can't be made, and nothing is heard: {fault.strerror}",
+                      READ_ONLY if is_read_only(spool) else "look at the spool's owner and rights, and at the room on its disk") from None
     fcntl.flock(opened, fcntl.LOCK_EX | fcntl.LOCK_NB)
     sync_names(spool)
     return opened
@@ -78,6 +90,7 @@ class Receiving:
         self.config, self.name = config, name
         self.command, self.form = feed_of(name, config.receivers[name])
         self.running: list[subprocess.Popen[bytes]] = []
+        self.noises: list[Noise] = []
         self.ending = Ending()
 
     def run(self) -> None:
@@ -85,6 +98,11 @@ class Receiving:
         # (who waits for the feed's end sees it then, and cleans up)
         self.ending.heed_signals(lambda: self._signal(signal.SIGTERM))
         prepare_folder(self.config.folder)
+        told = self.config.receivers[self.name]
+        # (a pipe is none that was recorded)
+        if told.profile == "file" and (Path(told.file).is_file() or not Path(told.file).exists()):
+            self._hear_recorded(Path(told.file))
+            self.ending.wait()
         was_full = False
         while not self.ending.is_set():
             if spooled_bytes(self.config.spool) >= self.config.spool_bytes:
@@ -101,9 +119,33 @@ class Receiving:
                 log.warning("%s: its feed ended, and is started again", self.name)
                 self.ending.wait(PAUSE)
 
+    def _hear_recorded(self, path: Path) -> None:
+        """Has the lines of a recorded file come into the spool, where they didn't yet."""
+        recorded = Recorded(self.config.spool, self.name, path)
+        if recorded.is_heard():
+            log.info("%s: %s was heard before", self.name, path)
+            return
+        log.info("%s: %s | line_feed %s", self.name, path, self.form)
+        target = next_name(self.config.spool, self.name)
+        try:
+            with open(path, "rb") as given, open(recorded.making(target), "xb") as made:
+                words = [*words_of(self.config.programs.line_feed), self.form]
+                self.running = [subprocess.Popen(words, stdin=given, stdout=made, start_new_session=True)]
+                status = self.running[0].wait()
+            if self.ending.is_set():
+                return
+            if status:
+                raise Trouble(f"receivers.{self.name}", f"line_feed ended with status {status} over {path}", "look at its format")
+            recorded.count(target)
+        except OSError as fault:
+            raise Trouble(f"receivers.{self.name}", f"{path} can't be heard: {fault}", "look at the file, and at the room on the disk") from None
+        finally:
+            self.running = []
+            recorded.making(target).unlink(missing_ok=True)
+
     def _begin_file(self) -> None:
         """Begins an empty file: of a receiver's files the newest isn't taken away, and so would fill the spool though it was heard."""
-        with suppress(OSError):
+        with suppress(Trouble):
             os.close(new_file(self.config.spool, self.name))
 
     def _feed(self) -> None:
@@ -133,9 +175,12 @@ class Receiving:
         try:
             if not self.running:
                 self.running = [subprocess.Popen(["/bin/sh", "-c", self.command], stdin=subprocess.DEVNULL, stdout=subprocess.PIPE,
-                                                 env=environment(), start_new_session=True)]
+                                                 stderr=subprocess.PIPE, env=environment(), start_new_session=True)]
+                self._listen(self.running[0])
             radio = self.running[0]
-            feed = subprocess.Popen(words, stdin=subprocess.PIPE, stdout=opened, start_new_session=True, preexec_fn=limit_file)
+            feed = subprocess.Popen(words, stdin=subprocess.PIPE, stdout=opened, stderr=subprocess.PIPE, start_new_session=True,
+                                    preexec_fn=limit_file)
+            self._listen(feed)
         except OSError as fault:
             raise Trouble(f"receivers.{self.name}", f"line_feed can't be started: {fault.strerror}", "name it under [programs]") from None
         self.running = [radio, feed]
@@ -151,15 +196,27 @@ class Receiving:
                 feed.wait()
         return None
 
+    def _listen(self, child: subprocess.Popen[bytes]) -> None:
+        """Has what a program says in its log come into this one's, within bounds."""
+        assert child.stderr is not None
+        self.noises.append(Noise(self.name, cast(BinaryIO, child.stderr)))
+
     def _pass_on(self, printed: int, feed: subprocess.Popen[bytes], opened: int, content: bytes) -> bytes | None:
         """Passes on what the radio prints, until the file is great enough: then up to the end of a line. What is left; none once it ended."""
         assert feed.stdin is not None
+        begun = b""
         while not self.ending.is_set() and feed.poll() is None:
-            place = content.find(b"\n") + 1 if os.fstat(opened).st_size >= MOST_BYTES - ROOM else 0
+            told = os.fstat(opened)
+            if not told.st_nlink:
+                # (nobody finds what is written there; the line that was begun goes into the next one whole)
+                log.warning("%s: its file of the spool was deleted, and it begins another one", self.name)
+                return begun + content
+            place = content.find(b"\n") + 1 if told.st_size >= MOST_BYTES - ROOM else 0
             put(feed.stdin.fileno(), content[:place] if place else content)
             if place:
                 return content[place:]
-            content = b""
+            # (of what is far too long for a line nothing more is known)
+            begun, content = (begun + content).rpartition(b"\n")[2][-CHUNK:], b""
             if select.select([printed], [], [], PAUSE)[0]:
                 content = os.read(printed, CHUNK)
                 if not content:
@@ -173,7 +230,9 @@ class Receiving:
             end_group(child)
             if child.stdout:
                 child.stdout.close()
-        self.running = []
+        for noise in self.noises:
+            noise.end()
+        self.running, self.noises = [], []
 
     def _signal(self, number: int) -> None:
         """Sends a signal to all that still runs of the feed."""

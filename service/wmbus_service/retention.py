@@ -7,6 +7,7 @@ import sqlite3
 import time
 
 from .config import Keep
+from .days import HEARD, IS_TIMED, LEAST, day_of, zone_now
 from .store import set_setting, setting, transaction
 
 log = logging.getLogger("wmbus")
@@ -14,15 +15,14 @@ log = logging.getLogger("wmbus")
 DAY = 86_400.0
 # so much faster than time the moment goes on from which ages are reckoned, where the clock went forward: a day an hour
 CATCHES_UP = 24.0
-# in front of the first day of 2026 no clock is set
-LEAST = 1_767_225_600.0
 # so often the moment is written down
 NOTED = 600.0
 # rows of a transaction, so that sessions wait for none of them long
 PIECE = 1000
-# when a reading was heard, as the page tells it: by its receiver's clock, where that one has a time that isn't after its session's
-HEARD = "case when moment between 100000000 and made + 3600 then moment else made end"
 VALUES = "address, quantity, unit, exponent, value, function, storage, tariff, subunit, modifiers"
+# of a day's values the one that was heard last stays, whichever goes first; one without a time where there is no other
+LAST_STAYS = (" on conflict do update set exponent = excluded.exponent, value = excluded.value, moment = excluded.moment"
+              " where coalesce(excluded.moment, 0) >= coalesce(daily.moment, 0)")
 
 
 class Ages:
@@ -102,13 +102,15 @@ def _forget_payloads(database: sqlite3.Connection, before: float) -> int:
 
 
 def _gather_days(database: sqlite3.Connection, before: float) -> int:
-    """Of the oldest readings the last values of each day stay."""
+    """Of the oldest readings the last values of each day stay, as the page tells days and what comes last."""
+    database.create_function("day_of", 1, day_of)
     with transaction(database):
         rows = database.execute("select id from reading where made < ? order by made, id limit ?", (before, PIECE)).fetchall()
         oldest = [ident for (ident,) in rows]
         # (what stays of several is written last: what stands first in the day's last reading)
-        database.execute(f"insert or replace into daily (day, {VALUES}) select date({HEARD}, 'unixepoch'), {VALUES} from"
-                         " (select value as ident from json_each(?)) cross join reading on reading.id = ident"
-                         " cross join record on record.reading = reading.id order by reading.id, record.place desc", (json.dumps(oldest),))
+        database.execute(f"insert into daily (day, zone, moment, {VALUES}) select day_of({HEARD}), ?, case when {IS_TIMED} then moment end,"
+                         f" {VALUES} from (select value as ident from json_each(?)) cross join reading on reading.id = ident"
+                         f" cross join record on record.reading = reading.id where true order by reading.id, record.place desc{LAST_STAYS}",
+                         (zone_now(), json.dumps(oldest)))
         database.executemany("delete from reading where id = ?", [(ident,) for ident in oldest])
         return len(oldest)

@@ -88,6 +88,25 @@ NO_METERS = "delete from meter where substr(block, 1, 6) <> 'meter ';\n"
 # since when a meter is out of service, in seconds since 1970; null while it is in service
 RETIRED = "alter table meter add column retired real;\n"
 
+# a day's value has the zone in which its day was cut, and when it was heard; null without a time. Those of before were cut in UTC, and may be
+# as late as their day's end
+ZONES = """
+alter table daily rename to daily_of_before;
+create table daily (
+    address text, day text, quantity text, unit text, exponent integer, value text, function text, storage integer, tariff integer,
+    subunit integer, modifiers text, zone text, moment integer,
+    primary key (address, day, zone, quantity, unit, function, storage, tariff, subunit, modifiers)) without rowid;
+insert into daily select address, day, quantity, unit, exponent, value, function, storage, tariff, subunit, modifiers, 'UTC',
+    cast(strftime('%s', day) as integer) + 86399 from daily_of_before;
+drop table daily_of_before;
+"""
+
+# who put a command, and messages over which the broker ends each connection
+ASKED = """
+alter table command add column asked_by text not null default '';
+create table publication_aside (id integer primary key, topic text not null, payload text not null, said text not null, made real not null);
+"""
+
 # the statements that make of version N the version N + 1
-MIGRATIONS = (FIRST, DAYS, FAILED, WAITING, UNITS, NO_METERS, RETIRED)
+MIGRATIONS = (FIRST, DAYS, FAILED, WAITING, UNITS, NO_METERS, RETIRED, ZONES, ASKED)
 VERSION = len(MIGRATIONS)

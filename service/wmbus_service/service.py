@@ -10,7 +10,7 @@ import time
 from contextlib import suppress
 from pathlib import Path
 
-from . import meters, retention, store
+from . import begun, meters, retention, store
 from .config import Config, unproved_words
 from .downlinks import send_downlinks
 from .ending import Ending
@@ -18,6 +18,7 @@ from .memory_files import leave_no_core
 from .publications import announce_anew
 from .session import MOST, Sessions
 from .trouble import Trouble
+from .troubles import Troubles
 from .watching import Watch
 
 log = logging.getLogger("wmbus")
@@ -41,7 +42,8 @@ def lock(folder: Path, kind: int = fcntl.LOCK_EX) -> int:
         opened = os.open(folder / "lock", os.O_RDWR | os.O_CREAT | os.O_CLOEXEC, 0o600)
     except OSError as fault:
         raise Trouble(folder / "lock", f"it can't be opened: {fault.strerror}",
-                      "have the file system writable, and look at the owner and the rights of the folder") from None
+                      store.READ_ONLY if store.is_read_only(folder)
+                      else "have it writable, and look at the owner and the rights of the folder") from None
     for _ in range(LOCK_TRIES):
         try:
             fcntl.flock(opened, kind | fcntl.LOCK_NB)
@@ -101,8 +103,9 @@ def alive_seconds() -> float:
 class Service:
     """A service over a folder, until it is told to end."""
 
-    def __init__(self, config: Config, database: sqlite3.Connection) -> None:
+    def __init__(self, config: Config, database: sqlite3.Connection, troubles: Troubles | None = None) -> None:
         self.config, self.database = config, database
+        self.troubles = troubles or Troubles(config.folder)
         self.sessions = Sessions(config, database)
         self.ending = Ending()
         # (by the clock that nobody sets)
@@ -111,6 +114,7 @@ class Service:
         self.let_go_at = 0.0
         self.noted_at = 0.0
         self.ages = retention.Ages(database)
+        self.file = begun.identity(config.database)
 
     def run(self) -> None:
         """Sessions one after the other; after trouble the same lines come again."""
@@ -122,6 +126,7 @@ class Service:
                 count = self.turn()
                 if self.trouble:
                     log.info("sessions go on")
+                    self.troubles.over("sessions")
                 pause, self.trouble = LEAST_PAUSE, ""
                 left = min(LEFT * (time.monotonic() - began), MOST_LEFT)
                 wait = left if count >= MOST // 2 or count >= self.sessions.most else self.config.interval
@@ -144,6 +149,9 @@ class Service:
 
     def turn(self) -> int:
         """What is committed goes out, then a session, then what it says to be sent; how many lines it took."""
+        if begun.identity(self.config.database) != self.file:
+            # (what is written into a file without a name is gone with this process)
+            raise begun.Lost(self.config.database, "the database was taken away or replaced while the service runs", begun.REMEDY_RUNNING)
         send_downlinks(self.config, self.database, time.time())
         count = self.sessions.next(time.time())
         send_downlinks(self.config, self.database, time.time())
@@ -170,6 +178,7 @@ class Service:
         if str(told) != self.trouble:
             log.error("%s", told)
             self.trouble = str(told)
+            self.troubles.tell("sessions", self.trouble)
 
 
 def run(config: Config) -> None:
@@ -181,22 +190,34 @@ def run(config: Config) -> None:
     with suppress(OSError):
         os.pwrite(held, b"its time is that of the last session\n", 0)
     note_session(config.folder)
+    troubles = Troubles(config.folder)
     try:
-        database = store.open_store(config.database, is_new=True)
-        service = Service(config, database)
-        if config.roster:
-            meters.take_roster(config, database, meters.read_roster(Path(config.roster)), config.roster)
-        service.ending.heed_signals()
-        start_beside(config, service)
+        service = begun_service(config, troubles)
         notify("READY=1")
         if words := unproved_words(config.programs.steps):
             log.warning("%s", words)
-        log.info("begun with %d meters and %d receivers", meters.count(database), len(config.receivers))
+        log.info("begun with %d meters and %d receivers", meters.count(service.database), len(config.receivers))
         service.run()
         notify("STOPPING=1")
         log.info("ended")
+    except (Trouble, OSError, sqlite3.Error) as fault:
+        troubles.tell("start", str(fault))
+        raise
     finally:
         os.close(held)
+
+
+def begun_service(config: Config, troubles: Troubles) -> Service:
+    """A service over the folder, with what goes beside it."""
+    database = store.open_store(config.database, is_new=True)
+    # (a downlink mustn't go out whose counter is free again after a power cut)
+    store.stand_on_disk(database)
+    service = Service(config, database, troubles)
+    if config.roster:
+        meters.take_roster(config, database, meters.read_roster(Path(config.roster)), config.roster)
+    service.ending.heed_signals()
+    start_beside(config, service)
+    return service
 
 
 def start_beside(config: Config, service: Service) -> None:
@@ -204,7 +225,7 @@ def start_beside(config: Config, service: Service) -> None:
     if config.mqtt:
         from .broker import Broker
         announce_anew(config.mqtt, service.database)
-        Broker(config, config.mqtt, service.ending).start()
+        Broker(config, config.mqtt, service.ending, service.troubles).start()
     if config.metrics:
         from .metrics import serve
         serve(config, config.metrics, service)

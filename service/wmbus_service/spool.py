@@ -2,13 +2,19 @@
 file is taken is committed with the session that took it."""
 from __future__ import annotations
 
+import errno
 import fcntl
+import logging
 import os
 import sqlite3
+import stat
 from contextlib import suppress
 from dataclasses import dataclass
 from itertools import accumulate
 from pathlib import Path
+from typing import BinaryIO
+
+log = logging.getLogger("wmbus")
 
 # a line of the grammar has 1,024 bytes at most; of a longer one so many are kept, and the program calls it bad
 LONGEST = 1_100
@@ -31,6 +37,8 @@ class Spool:
     def __init__(self, folder: Path, receiver: str) -> None:
         self.folder, self.receiver = folder, receiver
         self.synced: set[str] = set()
+        # what couldn't be read, with the words that the log has of it
+        self.told: dict[str, str] = {}
 
     def files(self) -> list[Path]:
         """The files, the oldest first."""
@@ -45,15 +53,28 @@ class Spool:
             place = place_of(database, self.receiver, path.name)
             # (a receiver takes its own file away where it heard nothing; long lines are read in several pieces, and those of the next
             # file stand behind all of them)
-            with suppress(FileNotFoundError):
+            try:
                 while len(taken) < most and (found := self._take_of(path, place, most - len(taken))):
                     taken += found
                     place = found[-1].behind
+                self.told.pop(path.name, None)
+            except FileNotFoundError:
+                pass
+            except OSError as fault:
+                # (it alone stands still, until it can be read)
+                self._tell(path, fault)
         return taken
+
+    def _tell(self, path: Path, fault: OSError) -> None:
+        """Says once what can't be read."""
+        words = unread_words(path, fault)
+        if self.told.get(path.name) != words:
+            self.told[path.name] = words
+            log.error("%s", words)
 
     def _take_of(self, path: Path, start: int, most: int) -> list[Spooled]:
         """The lines of a file from a place on."""
-        with open(path, "rb") as file:
+        with open_lines(path) as file:
             if os.fstat(file.fileno()).st_size == start:
                 return []
             self._sync(path, file.fileno())
@@ -81,8 +102,8 @@ class Spool:
         """Takes away files that are taken to their end and that nothing writes any more; the newest stays, so that numbers rise."""
         files = self.files()
         for path in files[:-1]:
-            # (a receiver takes its own file away where it heard nothing)
-            with suppress(FileNotFoundError):
+            # (a receiver takes its own file away where it heard nothing, and what can't be read isn't finished)
+            with suppress(OSError):
                 if is_finished(path, place_of(database, self.receiver, path.name)):
                     path.unlink()
         names = {path.name for path in files}
@@ -94,11 +115,39 @@ class Spool:
             database.executemany("delete from source where receiver = ? and file = ?", gone)
 
 
+def open_lines(path: Path) -> BinaryIO:
+    """A file of lines, opened; what is none, as a folder or a pipe, which would be waited for, is a fault."""
+    opened = os.open(path, os.O_RDONLY | os.O_NONBLOCK | os.O_CLOEXEC)
+    if not stat.S_ISREG(os.fstat(opened).st_mode):
+        os.close(opened)
+        raise OSError(errno.EINVAL, "it is no file")
+    return os.fdopen(opened, "rb")
+
+
+def unread_words(path: Path, fault: OSError) -> str:
+    """What is said of an entry of the spool that can't be read."""
+    return f"{path}: it can't be read, and its lines aren't heard: {fault.strerror}; look at it and at the disk, or move it away"
+
+
+def unread(folder: Path) -> list[str]:
+    """What in the spool can't be read now."""
+    found = []
+    for path in sorted(folder.glob("*.lines")):
+        try:
+            with open_lines(path) as file:
+                file.read(1)
+        except FileNotFoundError:
+            continue
+        except OSError as fault:
+            found.append(unread_words(path, fault))
+    return found
+
+
 def size_of(path: Path) -> int:
-    """How many bytes a file has; none where a session took it away meanwhile."""
+    """How many bytes a file has; none where a session took it away meanwhile, or it is none."""
     try:
         return path.stat().st_size
-    except FileNotFoundError:
+    except OSError:
         return 0
 
 
@@ -106,7 +155,7 @@ def written_at(path: Path) -> float:
     """When something was written into a file last; 0 where a session took it away meanwhile."""
     try:
         return path.stat().st_mtime
-    except FileNotFoundError:
+    except OSError:
         return 0.0
 
 
@@ -140,7 +189,7 @@ def put_places(database: sqlite3.Connection, lines: list[Spooled]) -> None:
 def is_finished(path: Path, taken: int) -> bool:
     """Whether no line comes into a file any more and none is left: its writer, which holds a lock on it, has ended. A line that was
     cut off at its end is dropped."""
-    with open(path, "rb") as file:
+    with open_lines(path) as file:
         try:
             fcntl.flock(file, fcntl.LOCK_EX | fcntl.LOCK_NB)
         except BlockingIOError:

@@ -11,13 +11,16 @@ from typing import Any
 from . import service, store
 from .asking import Database
 from .config import Config
+from .days import HEARD
 from .meters import day_of
 from .page import radios
-from .retention import DAY, HEARD, seconds_behind, went_forward
+from .retention import DAY, seconds_behind, went_forward
 from .sensors import NUMBER
-from .spool import place_of, size_of, written_at
+from .spool import place_of, size_of, unread, written_at
+from .troubles import troubles_of
 
 LAST = 10
+PARTS = {"sessions": "its sessions", "MQTT": "the MQTT broker", "start": "its start"}
 # (looked for in the index alone, since a meter has many)
 LAST_READING = f"select id, {HEARD}, counter from reading where id = (select max(id) from reading where address = ?)"
 
@@ -29,6 +32,7 @@ def figures(config: Config, database: sqlite3.Connection) -> dict[str, Any]:
     is_running = service.is_locked(config.folder)
     return {
         "running": is_running,
+        "troubles": [vars(it) for it in troubles_of(config.folder)],
         "no_session_seconds": round(service.still_seconds(config.folder, now)) if is_running else 0,
         # (where it doesn't run nothing is let go, and no clock does harm)
         "clock_went_forward": round(seconds_behind(database, now)) if is_running else 0,
@@ -38,7 +42,7 @@ def figures(config: Config, database: sqlite3.Connection) -> dict[str, Any]:
         "retired": _rows(database, f"select address, name, retired, (select {HEARD} from reading where id ="
                                    " (select max(id) from reading where reading.address = meter.address)) as heard"
                                    " from meter where retired is not null order by place"),
-        "commands": _rows(database, "select id, address, kind, state, tries, reason from command"
+        "commands": _rows(database, "select id, address, kind, state, tries, reason, asked_by from command"
                                     " where state in ('waiting', 'queued', 'sent') order by rowid"),
         "downlinks_missed": _rows(database, "select address, receiver, down, missed from outbox where missed is not null"
                                             f" order by id desc limit {LAST}"),
@@ -46,8 +50,11 @@ def figures(config: Config, database: sqlite3.Connection) -> dict[str, Any]:
         "strangers": _rows(database, "select address, times, receiver from stranger where address not in (select address from meter)"
                                      f" order by times desc limit {LAST}"),
         "aside": _rows(database, f"select id, receiver, text, said from aside order by id desc limit {LAST}"),
+        "messages_aside": _rows(database, "select topic, length(payload) as length, said from publication_aside order by id desc"
+                                          f" limit {LAST}"),
         "publications_waiting": database.execute("select count(*) from publication").fetchone()[0],
         "publications_oldest_seconds": round(oldest_publication(database, now)),
+        "spool_unread": unread(config.spool),
         "spooled_bytes": waiting_bytes(config, database),
     }
 
@@ -77,7 +84,7 @@ def meter(database: sqlite3.Connection, row: tuple[Any, ...], now: float) -> dic
     last = database.execute(LAST_READING, (row[0],)).fetchone()
     if last is None:
         return told | {"age": None, "counter": None, "values": []}
-    return told | {"age": round(now - last[1]), "counter": last[2], "values": values_of(database, last[0])}
+    return told | {"age": max(0, round(now - last[1])), "counter": last[2], "values": values_of(database, last[0])}
 
 
 def values_of(database: sqlite3.Connection, reading: int) -> list[str]:
@@ -105,15 +112,23 @@ def waiting_bytes(config: Config, database: Database) -> int:
     return sum(max(0, size_of(path) - taken.get(path.name, 0)) for path in config.spool.glob("*.lines"))
 
 
-def in_words(told: dict[str, Any]) -> Iterator[str]:
-    """The figures line by line."""
+def service_words(told: dict[str, Any]) -> Iterator[str]:
+    """Whether the service runs, and what the matter with it is."""
     yield "the service runs" if told["running"] else "the service doesn't run: systemctl start wmbus"
+    for it in told["troubles"]:
+        yield f"trouble with {PARTS.get(it['part'], it['part'])} since {day_and_time(it['since'])}: {it['words']}"
     if told["no_session_seconds"]:
         yield f"it has had no session for {told['no_session_seconds'] // 60} minutes: journalctl -u wmbus says why"
     if told["clock_went_forward"] > DAY:
         yield went_forward(told["clock_went_forward"])
+
+
+def in_words(told: dict[str, Any]) -> Iterator[str]:
+    """The figures line by line."""
+    yield from service_words(told)
     totals = told["totals"]
     yield f"{totals.get('lines', 0)} lines heard, {totals.get('stored', 0)} readings; {told['spooled_bytes']} bytes wait in the spool"
+    yield from told["spool_unread"]
     for it in told["receivers"]:
         yield receiver_words(it)
     for it in told["meters"]:
@@ -129,7 +144,8 @@ def in_words(told: dict[str, Any]) -> Iterator[str]:
             yield (f"meter {it['address']} {it['name']}".strip() + f" was heard though it is out of service since {day_of(it['retired'])}"
                    f" (`wmbus-service retire --back {it['address']}` puts it back)")
     for it in told["commands"]:
-        yield f"command {it['id']} for {it['address']}: {it['state']}, sent {it['tries']} times"
+        yield (f"command {it['id']} for {it['address']}: {it['state']}, sent {it['tries']} times; who asked for it:"
+               f" {it['asked_by'] or 'unknown'}")
     for it in told["downlinks_missed"]:
         yield f"downlink {it['down']} for {it['address']} wasn't sent by receiver {it['receiver'] or '(none)'}: {it['missed']}"
     for it in told["refusals"]:
@@ -138,11 +154,18 @@ def in_words(told: dict[str, Any]) -> Iterator[str]:
         yield f"heard {it['times']} times, and not known: {it['address']} (`wmbus-service add {it['address']}` adds it)"
     for it in told["aside"]:
         yield f"set aside, since the program fails at it: line {it['id']} of {it['receiver'] or 'the service'}: {it['said']}"
+    for it in told["messages_aside"]:
+        yield f"message of {it['length']} signs for {it['topic']} was set aside: {it['said']}"
     if told["publications_waiting"]:
         yield (f"{told['publications_waiting']} messages wait for the MQTT broker, the oldest for"
                f" {told['publications_oldest_seconds'] // 3600} hours")
     if left_out := totals.get("publications_left_out"):
         yield f"{left_out} messages weren't published, since too many waited for the MQTT broker, later ones of their topics among them"
+
+
+def day_and_time(moment: float) -> str:
+    """A moment, in this machine's zone."""
+    return time.strftime("%Y-%m-%d %H:%M", time.localtime(moment))
 
 
 def receiver_words(told: dict[str, Any]) -> str:

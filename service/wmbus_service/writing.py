@@ -2,6 +2,7 @@
 from __future__ import annotations
 
 import json
+import logging
 import sqlite3
 from collections import Counter
 from collections.abc import Sequence
@@ -13,6 +14,8 @@ from .config import Config, Ticks
 from .events import Event
 from .publications import Publications
 from .steps import Block, Told
+
+log = logging.getLogger("wmbus")
 
 MOST_STRANGERS = 1000
 RECORD = ("quantity", "unit", "exponent", "value", "function", "storage", "tariff", "subunit", "modifiers", "raw")
@@ -121,11 +124,14 @@ class Writing:
         ident = event.command or f"line {number}"
         if event.command is None:
             payload = event.text.split(" ")[2].strip().lower()
-            self.database.execute("insert into command (id, address, kind, payload, state, number, made, changed)"
-                                  " values (?, ?, 'send', ?, 'queued', ?, ?, ?)",
-                                  (ident, said["address"], payload, said["id"], self.now, self.now))
+            self.database.execute("insert into command (id, address, kind, payload, state, number, made, changed, asked_by)"
+                                  " values (?, ?, 'send', ?, 'queued', ?, ?, ?, ?)",
+                                  (ident, said["address"], payload, said["id"], self.now, self.now,
+                                   f"a line of receiver {event.spooled.receiver if event.spooled else '(none)'}"))
         else:
             self.database.execute("update command set state = 'queued', number = ?, changed = ? where id = ?", (said["id"], self.now, ident))
+        (asked_by,) = self.database.execute("select asked_by from command where id = ?", (ident,)).fetchone()
+        log.info("command %s for meter %s is queued; who asked for it: %s", ident, said["address"], asked_by or "unknown")
         self.publications.command(ident)
 
     def _cancelled(self, event: Event, said: dict[str, Any], number: int) -> None:

@@ -9,7 +9,7 @@ from dataclasses import dataclass
 from fractions import Fraction
 
 import running
-from frames import format_a, format_b
+from telegrams.frames import format_a, format_b
 
 TOP = os.path.dirname(os.path.dirname(os.path.dirname(os.path.realpath(__file__))))
 VERSION, PACKAGE = "22.11", "rtl-433"

@@ -2,8 +2,8 @@
 ticks, strangers, broken frames and bad lines in all of them; some receivers end early."""
 import random
 
-from frames import format_a
-from messages import fragments, telegram, whole
+from telegrams.frames import format_a
+from telegrams.messages import fragments, telegram, whole
 
 RECEIVERS = (2, 4, 8, 16)
 

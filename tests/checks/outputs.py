@@ -3,8 +3,8 @@ downlinks."""
 import json
 
 import replay
-from frames import format_a
-from messages import downlink
+from telegrams.frames import format_a
+from telegrams.messages import downlink
 
 
 def record_of(line):

@@ -2,7 +2,7 @@
 import json
 from datetime import datetime, timezone
 
-from frames import format_a, format_b
+from telegrams.frames import format_a, format_b
 
 
 def shown(moment):

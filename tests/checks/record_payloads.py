@@ -25,9 +25,15 @@ def by_hand() -> list[tuple[bytes, str]]:
 
 
 def listed() -> list[tuple[bytes, str]]:
-    """A published payload's record alone, and what it says: as `by_hand` has it, and its type behind that."""
+    """A published payload's record alone, or one worked out by hand, and what it says: as `by_hand` has it, and its type behind that."""
     rows = [line.split(" ", 1) for line in _lines("listed")]
     return [(bytes.fromhex(payload), wanted) for payload, wanted in rows]
+
+
+def as_plain() -> list[tuple[bytes, str | None]]:
+    """A record, and what its VIF alone makes of data that are the manufacturer's own, worked out by hand; a dash where it makes nothing."""
+    rows = [line.split(" ", 1) for line in _lines("as_plain")]
+    return [(bytes.fromhex(payload), None if wanted == "-" else wanted) for payload, wanted in rows]
 
 
 def report_of(payloads: Iterable[bytes]) -> str:

@@ -7,6 +7,6 @@ import sys
 
 TOP = os.path.dirname(os.path.dirname(os.path.dirname(os.path.realpath(__file__))))
 # (the first is the script's own folder)
-sys.path[1:1] = [TOP, *(f"{TOP}/{folder}" for folder in ("tests", "tests/checks", "tests/fuzz", "bench"))]
+sys.path[1:1] = [TOP, *(f"{TOP}/{folder}" for folder in ("tests", "tests/checks", "tests/fuzz", "bench", "build"))]
 
 from readings import quiet  # noqa: E402, F401

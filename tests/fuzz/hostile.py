@@ -7,8 +7,8 @@ import os
 import re
 
 import ways
-from frames import format_a, format_b
-from messages import METER_CIPHER, METER_MAC, cbc, cmac, derived, telegram
+from telegrams.frames import format_a, format_b
+from telegrams.messages import METER_CIPHER, METER_MAC, cbc, cmac, derived, telegram
 from reading import KI, MAC, MCL, MCR, ML, MORE, SIZES, lines_of, telegram_of
 
 EXAMPLES = os.path.join(ways.TOP, "examples")

@@ -1,7 +1,7 @@
 """Reads a receiver's lines as docs/FORMATS.md says, without the program: which class each line is in, and for which address."""
 import re
 
-from frames import format_a, format_b
+from telegrams.frames import format_a, format_b
 
 NUMBER = re.compile(rb"(0|[1-9][0-9]*)\Z")
 DIGITS = re.compile(rb"([0-9a-fA-F]{2})*\Z")

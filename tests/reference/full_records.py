@@ -3,7 +3,7 @@
 What a record says is given in the words of `reading_list`, and numbers exactly."""
 import math
 import struct
-from dataclasses import dataclass, field
+from dataclasses import dataclass, field, replace
 from fractions import Fraction
 
 from reference.records import AFTER_FB, AFTER_FD, VARIABLE, MakerData, Record
@@ -47,7 +47,8 @@ FD = (
              0x15: "developeraccesscode", 0x16: "password", 0x17: "errorflags", 0x18: "errormask", 0x19: "securitykey",
              0x1A: "digitaloutput", 0x1B: "digitalinput"})
     | {0x1C: ("baudrate", "Bd", 0), 0x1D: ("responsedelay", "bit", 0)}
-    | _bare({0x1E: "retries", 0x1F: "remotecontrol", 0x20: "firststorage", 0x21: "laststorage", 0x22: "storageblocksize"})
+    | _bare({0x1E: "retries", 0x1F: "remotecontrol", 0x20: "firststorage", 0x21: "laststorage", 0x22: "storageblocksize",
+             0x23: "tariffdescriptor"})
     | _units(0x24, "storageinterval", (*TIME, "month", "year"))
     | _bare({0x2A: "operatordata", 0x2B: "timepointsecond"}) | _units(0x2C, "readoutage", TIME)
     | _bare({0x30: "tariffstart"}) | _units(0x31, "tariffduration", TIME[1:])
@@ -78,7 +79,7 @@ _WORDS = {
     0x01: "toomanydifes", 0x02: "storagenotimplemented", 0x03: "unitnotimplemented", 0x04: "tariffnotimplemented",
     0x05: "functionnotimplemented", 0x06: "dataclassnotimplemented", 0x07: "datasizenotimplemented", 0x0B: "toomanyvifes",
     0x0C: "illegalvifgroup", 0x0D: "illegalvifexponent", 0x0E: "vifdifmismatch", 0x0F: "actionnotimplemented",
-    0x13: "inversecompactprofile", 0x15: "nodata", 0x16: "dataoverflow", 0x17: "dataunderflow", 0x18: "dataerror",
+    0x12: "average", 0x13: "inversecompactprofile", 0x14: "relativedeviation", 0x15: "nodata", 0x16: "dataoverflow", 0x17: "dataunderflow", 0x18: "dataerror",
     0x1C: "prematureend", 0x1D: "standardconform", 0x1E: "numberedcompactprofile", 0x1F: "compactprofile",
     0x20: "persecond", 0x21: "perminute", 0x22: "perhour", 0x23: "perday", 0x24: "perweek", 0x25: "permonth", 0x26: "peryear",
     0x27: "perrevolution", 0x28: "perinputpulse0", 0x29: "perinputpulse1", 0x2A: "peroutputpulse0", 0x2B: "peroutputpulse1",
@@ -121,6 +122,7 @@ class FullRecord:
     qualifiers: list[str] = field(default_factory=list)
     unset: bool = False
     number: str | None = None
+    plain: str | None = None
 
 
 def _limit_qualifier(code: int) -> Qualifier | None:
@@ -231,9 +233,7 @@ def _moment(width: int, word: int) -> tuple[str | None, str]:
         return (said and said + marks), "F"
     time = _joined(":", _named(_bits(word, 16, 5), 31, 0, 23, 2), _named(_bits(word, 8, 6), 63, 0, 59, 2),
                    _named(_bits(word, 0, 6), 63, 0, 59, 2))
-    said, week = _joined("T", _day(word, 24), time), _bits(word, 40, 6)
-    if week > 53:
-        return None, "I"
+    said = _joined("T", _day(word, 24), time)
     marks = "!" * _bits(word, 15, 1) + "+" * _bits(word, 6, 1)
     return (said and said + marks), "I"
 
@@ -296,7 +296,7 @@ def _kind_of(record: Record) -> str:
     """How a number's data are coded: the data field, or the LVAR."""
     data_field = record.dif & 15
     if data_field == VARIABLE:
-        return ("text", "A", "-A", "B")[max(0, (record.lvar >> 4) - 0xB)]
+        return ("text", "A", "-A", "B", "long")[max(0, (record.lvar >> 4) - 0xB)]
     return {0: "none", 5: "H"}.get(data_field, "B" if data_field < 8 else "sA")
 
 
@@ -308,8 +308,8 @@ def _counted(digits: int, text: str, unset: bool) -> str | None:
 def _number(record: Record, exponent: int, bits: bool, qualifiers: list[Qualifier]) -> tuple[str, str, bool, str | None]:
     """The value as text, the type, whether the number stands for none, and the number that it counts."""
     kind, raw = _kind_of(record), record.raw
-    if kind == "none":
-        return "-", "-", False, None
+    if kind in ("none", "long"):
+        return "raw" if raw else "-", "-", False, None
     if kind == "text":
         return "".join(chr(byte) if chr(byte) in PLAIN else f"%{byte:02x}" for byte in raw[::-1]), "text", False, None
     if kind == "H":
@@ -336,13 +336,23 @@ def _dated(record: Record) -> tuple[str, str, bool]:
     """A date or a time, by the width of a binary data field; type M by an LVAR isn't taken apart."""
     raw, data_field = record.raw, record.dif & 15
     if data_field == VARIABLE:
-        return "raw" if raw else "-", "M", False
+        return ("raw", "M", False) if raw else ("-", "-", False)
     if not raw:
         return "-", "-", False
     if data_field not in (2, 3, 4, 6):
         return "raw", "-", False
     said, kind = _moment(len(raw), int.from_bytes(raw, "little"))
     return said or "raw", kind, set(raw) == {0xFF}
+
+
+def _plain(record: Record, words: list[str]) -> str | None:
+    """What the VIF alone makes of data that are the manufacturer's own, if it makes something of them: the value and its unit."""
+    if "makersown" not in words:
+        return None
+    alone = read_in_full(replace(record, modifiers=b""))
+    if alone.type != "text" and alone.value in ("-", "raw", "withheld"):
+        return None if alone.type != "H" else f"{alone.value} {alone.unit}"
+    return f"{alone.value} {alone.unit}"
 
 
 def read_in_full(record: Record | MakerData) -> FullRecord:
@@ -363,11 +373,11 @@ def read_in_full(record: Record | MakerData) -> FullRecord:
     number = None
     words = [q.word if q.word not in ("kept", "extended", "factor", "constant") else f"{q.word}-{q.code:02x}" for q in qualifiers]
     if reads == "withheld":
-        value, kind, unset = ("withheld" if record.raw else "-"), "withheld", False
+        value, kind, unset = ("withheld", "withheld", False) if record.raw else ("-", "-", False)
     elif reads == "raw":
-        value, unset = ("raw" if record.raw else "-"), False
+        value, kind, unset = ("raw", kind, False) if record.raw else ("-", "-", False)
     elif reads == "moment":
         value, kind, unset = _dated(record)
     else:
         value, kind, unset, number = _number(record, exponent, bits, qualifiers)
-    return FullRecord(quantity, unit, exponent, value, kind, words, unset, number)
+    return FullRecord(quantity, unit, exponent, value, kind, words, unset, number, _plain(record, words))

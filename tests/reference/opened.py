@@ -33,7 +33,7 @@ def record_line(number: int, item: Record | MakerData) -> str:
 
 def records_lines(payload: bytes) -> list[str]:
     """The data records of a payload, and the fault behind them."""
-    listing = listing_of(payload)
+    listing = listing_of(payload, long=True)
     lines = [record_line(number, item) for number, item in enumerate(listing.items, 1)]
     return lines + [f"  fault {listing.fault}"] * (listing.fault is not None)
 

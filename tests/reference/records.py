@@ -4,6 +4,8 @@ from dataclasses import dataclass, field
 MOST_LISTED, MOST_EXTENSIONS = 256, 10
 FILLER, MAKER = 0x2F, (0x0F, 0x1F)
 SIZES = {0: 0, 1: 1, 2: 2, 3: 3, 4: 4, 5: 4, 6: 6, 7: 8, 9: 1, 10: 2, 11: 3, 12: 4, 14: 6}
+# What an LVAR announces that stands for a long binary number (EN 13757-3, 6.3), which the profile doesn't read.
+LONG_SIZES = {0xF0: 16, 0xF1: 20, 0xF2: 24, 0xF3: 28, 0xF4: 32, 0xF5: 48, 0xF6: 64}
 SELECTION, VARIABLE, SPECIAL = 8, 13, 15
 PLAIN_TEXT, AFTER_FB, AFTER_FD = 0x7C, 0xFB, 0xFD
 
@@ -44,10 +46,10 @@ class Listing:
 
 
 class _Reader:
-    """Reads a payload from a place on; `start` is that of the record's DIF."""
+    """Reads a payload from a place on; `start` is that of the record's DIF, and `long` whether long numbers are records."""
 
-    def __init__(self, payload: bytes) -> None:
-        self.payload, self.place, self.start = payload, 0, 0
+    def __init__(self, payload: bytes, long: bool) -> None:
+        self.payload, self.place, self.start, self.long = payload, 0, 0, long
 
     def take(self, count: int) -> bytes:
         """The next bytes, or the fault `truncated`."""
@@ -78,8 +80,10 @@ def _register(dif: int, extensions: bytes) -> tuple[int, int, int]:
     return storage, tariff, subunit
 
 
-def _variable_size(lvar: int) -> int:
+def _variable_size(lvar: int, long: bool) -> int:
     """How many bytes stand behind the length byte of data of variable length (EN 13757-3, 6.3.3)."""
+    if long and lvar in LONG_SIZES:
+        return LONG_SIZES[lvar]
     if lvar < 0xC0:
         return lvar
     if lvar & 15 > 9 and lvar < 0xE0 or lvar > 0xEF:
@@ -106,14 +110,14 @@ def _read_record(reader: _Reader) -> Record | MakerData:
     vif, modifiers = (first, *extensions[:has_table]), extensions[has_table:]
     if dif & 15 == VARIABLE:
         lvar = reader.take(1)[0]
-        return Record(dif, *register, vif, modifiers, lvar, reader.take(_variable_size(lvar)))
+        return Record(dif, *register, vif, modifiers, lvar, reader.take(_variable_size(lvar, reader.long)))
     return Record(dif, *register, vif, modifiers, None, reader.take(SIZES[dif & 15]))
 
 
 def all_records(payload: bytes) -> list[Record | MakerData]:
-    """All records up to the payload's end or its first fault, however many."""
+    """All records up to the payload's end or its first fault, however many, and long numbers too."""
     found: list[Record | MakerData] = []
-    reader = _Reader(payload)
+    reader = _Reader(payload, True)
     try:
         while True:
             while payload[reader.place:reader.place + 1] == bytes([FILLER]):
@@ -125,9 +129,9 @@ def all_records(payload: bytes) -> list[Record | MakerData]:
         return found
 
 
-def listing_of(payload: bytes) -> Listing:
-    """`listed`: the records up to the payload's end or its first fault; idle fillers are passed over."""
-    reader, listing = _Reader(payload), Listing()
+def listing_of(payload: bytes, long: bool = False) -> Listing:
+    """`listed`: the records up to the payload's end or its first fault, with long numbers or not; idle fillers are passed over."""
+    reader, listing = _Reader(payload, long), Listing()
     try:
         while True:
             while payload[reader.place:reader.place + 1] == bytes([FILLER]):

@@ -8,8 +8,8 @@ import sqlite3
 from datetime import datetime, timezone
 
 import receivers
-from frames import format_a
-from messages import downlink, fragments, whole
+from telegrams.frames import format_a
+from telegrams.messages import downlink, fragments, whole
 from walks.steps import EXAMPLES, Walk, equal, true, what_to_do
 
 OWN = "9315010000000131"

@@ -63,14 +63,12 @@ def a_fresh_clone(walk: Walk) -> None:
 
 
 def the_two_commands_of_the_readme(walk: Walk) -> None:
-    """The second prints what the telegram says."""
+    """The second prints what the telegram says, in words that a person reads."""
     first, second = re.findall(r"^```sh(?: root)?\n(.*?)^```$", walk.text("clone/README.md"), re.M | re.S)[:2]
     true(f"README's first command is another one: {first}", first.startswith("sudo apt-get install -y python3 "))
     walk.say("README's first command, since it installs packages")
-    report = in_clone(walk, "bash", "-c", second).text
-    records = [line.split(" ") for line in report.splitlines() if line.startswith("record ")]
-    equal("what the gas meter says", [["volume", "m3", "-2", "2850427"], ["datetime", "-", "0", "2008-05-31T23:50"], ["errorflags", "-", "0", "0"]],
-          [[*fields[5:8], fields[9]] for fields in records])
+    listed = in_clone(walk, "bash", "-c", second).text.splitlines()
+    equal("what the gas meter says", ["quantity value unit", *(f"{name} {value} {unit}" for name, (value, unit) in VALUES.items())], listed)
 
 
 def each_help_and_its_statuses(walk: Walk) -> None:

@@ -13,8 +13,8 @@ import subprocess
 from collections.abc import Callable
 
 import running
-from frames import format_a
-from messages import whole
+from telegrams.frames import format_a
+from telegrams.messages import whole
 from reference.roster import RosterFault
 from reference.states import read_state
 from walks.steps import EXAMPLES, PROGRAMS, TOP, Walk, Wrong, equal, true, what_to_do

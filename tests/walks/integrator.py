@@ -15,8 +15,8 @@ import made_sessions
 import outputs
 import replay
 import running
-from frames import format_a
-from messages import downlink, whole
+from telegrams.frames import format_a
+from telegrams.messages import downlink, whole
 from reference.states import read_state
 from walks.steps import Walk, equal, true, what_to_do
 

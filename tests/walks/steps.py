@@ -10,9 +10,9 @@ from collections.abc import Callable
 from pathlib import Path
 
 import running
+from formats_page import Row, explained_rows
 from judging import content, text_of
 from readings import programs
-from readings.explained import Row, explained_rows
 from reference import judge
 
 TOP = Path(programs.TOP)

@@ -25,7 +25,7 @@ use Rattle.report_text.proofs.LinePieces.{worded_number, worded_two}
 use Rattle.report_text.proofs.LineOutcomes.{outcome_is}
 use Rattle.report_text.proofs.LineSteps.{behind_word, behind_two, fields_of_two, fields_of_more}
 use Rattle.report_text.proofs.LineReport.{commission_is, numbers_front, numbers_is, behind_steps, rings_others, head_others, end_others}
-use Rattle.roster_file.proofs.ReadBack.{number_back}
+use Rattle.written_words.proofs.Numbers.{number_back}
 use Rattle.audit_check_main.specs.declared.line_lists.Open.{Open}
 use Rattle.audit_check_main.specs.declared.line_lists.Open.TheVariants as opens
 use Rattle.audit_check_main.specs.Lists.{is_meter, both, numbers_in, pair_of, open_in, is_meters, is_of_strangers, AreInForm}

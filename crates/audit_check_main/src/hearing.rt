@@ -11,7 +11,8 @@ ghost use Rattle.audit_check_main.specs.Hearing.{class_in, counts_in, heard_inpu
 use crate::input::Input;
 use crate::whose::Whose;
 use meter_address::Address;
-use meter_slots::{Counts, Directory, MeterStart};
+use meter_directory::Directory;
+use meter_slots::{Counts, MeterStart};
 use outer_io::Memory;
 use receivers::{Class, Told};
 use std::alloc::Global;

@@ -3,7 +3,8 @@ ghost use Rattle.std.specs.Prelude.{◌≡◌, ◌∷◌, []};
 
 use crate::asserts::{NO_MEMORY, assert_shown};
 use meter_address::{Address, Commission, Mode};
-use meter_slots::{MeterStart, World};
+use meter_slots::MeterStart;
+use meter_worlds::World;
 use std::alloc::Global;
 use std::process::Abort;
 

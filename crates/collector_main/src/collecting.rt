@@ -89,7 +89,7 @@ fn write_outputs<R: Threads + Sync, K: Sink>(
     let parts = parts_made(rt, alloc, session.ends.len(), session.slots);
     Writes {
         next: write_next(form, own, session.slots, next),
-        readings: readings_json(&session, readings),
+        readings: readings_json(alloc, &session, readings),
         report: write_report(&session, &parts, report_sink),
     }
 }

@@ -12,7 +12,7 @@ ghost use Rattle.collector_main.specs.Statuses.{IsUnread, IsFinished, status_at,
 use crate::begin::known;
 use crate::form::Form;
 use crate::status::Status;
-use meter_slots::World;
+use meter_worlds::World;
 use outer_io::{Sink, Source};
 use receivers::{Alone, Ended, Receiver};
 use report_text::{ReceiverEnd, Session, report};

@@ -2,8 +2,8 @@
 use Rattle.std.proofs.Common.{◌≡◌, ℕ, ◌+◌, ◌-◌, ◌<◌, ◌++◌, Bool, List, Option, Result, refl}
 use Rattle.dif_vif.specs.declared.fault.RecordFault.{RecordFault}
 use Rattle.dif_vif.specs.declared.span.RecordSpan.{RecordSpan}
-use Rattle.dif_vif.specs.Reading.{next_of}
-use Rattle.dif_vif.proofs.Left.{next_left}
+use Rattle.full_spans.specs.Walk.{next_full_of}
+use Rattle.full_spans.proofs.Listings.{next_full_left}
 use Rattle.full_records.specs.declared.quantities.FullQuantity.{FullQuantity}
 use Rattle.full_records.specs.declared.quantities.FullUnitName.{FullUnitName}
 use Rattle.full_records.specs.declared.qualifiers.Qualifier.{Qualifier}
@@ -26,10 +26,10 @@ pieces_put number span {d} {q} {qs} {n} {v} {u} {s} d_is q_is qs_is n_is v_is u_
 
 -- a line is put, a fault ends the records, or nothing but fillers is left
 pub next_put : {P : Type 0} {takes : P → List ℕ → P → Type 0} {p q : P} (n : ℕ) (payload : List ℕ) (number from : ℕ)
-    (next : Result (Option RecordSpan) RecordFault) → 0 < n → next_of payload from ≡ next
+    (next : Result (Option RecordSpan) RecordFault) → 0 < n → next_full_of payload from ≡ next
     → Puts takes p (next_text (records_from (n - 1) payload (number + 1)) payload number next) q
     → Puts takes p (records_from n payload number from) q
 unfolding records_from
 next_put n payload number from next some is =
-    is_put _ _ (next_left (λ m. records_from m payload number from)
+    is_put _ _ (next_full_left (λ m. records_from m payload number from)
     (λ m. next_text (records_from m payload (number + 1)) payload number) payload from (λ m. refl) n next some is)

@@ -4,7 +4,7 @@ use Rattle.std.specs.List.{flat_map, enumerate_from}
 use Rattle.paper.specs.Pieces.{text_if}
 use Rattle.dif_vif.specs.declared.fault.RecordFault.{RecordFault}
 use Rattle.dif_vif.specs.declared.span.RecordSpan.{RecordSpan}
-use Rattle.dif_vif.specs.Listing.{IsListing}
+use Rattle.full_spans.specs.Listing.{IsFullListing}
 use Rattle.meter_address.specs.Commission.{Commissioned}
 use Rattle.afl_fragments.specs.Held.{Message}
 use Rattle.message_check.specs.declared.headers.Layers.{Layers}
@@ -15,7 +15,7 @@ use Rattle.frame_inspect.specs.RecordLines.{record_line, fault_line, records_tex
 
 -- the text of a payload is that of its one listing: a line for each of its records, numbered from 1, and then the fault that there may be
 abbrev pub RecordsAreListed : Type 0
-RecordsAreListed = (payload : List ℕ) (spans : List RecordSpan) (ending : Option RecordFault) → IsListing payload 0 spans ending
+RecordsAreListed = (payload : List ℕ) (spans : List RecordSpan) (ending : Option RecordFault) → IsFullListing payload 0 spans ending
     → records_text payload ≡ flat_map (record_line payload) (enumerate_from 1 spans) ++ text_if fault_line ending
 
 -- What is found in a telegram with a whole message is what this message says by itself: what it says once it is checked (mode 5) or its MAC is

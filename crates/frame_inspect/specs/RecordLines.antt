@@ -3,7 +3,7 @@ use Rattle.std.specs.Prelude.{ℕ, ◌+◌, zero, suc, List, [], ◌++◌, lengt
 use Rattle.paper.specs.Pieces.{labelled}
 use Rattle.dif_vif.specs.declared.fault.RecordFault.{RecordFault}
 use Rattle.dif_vif.specs.declared.span.RecordSpan.{RecordSpan}
-use Rattle.dif_vif.specs.Reading.{next_of}
+use Rattle.full_spans.specs.Walk.{next_full_of}
 use Rattle.record_text.specs.Lines.{bytes_at, fault_text}
 use Rattle.record_text.specs.Values.{hex_text}
 use Rattle.full_records.specs.declared.quantities.FullUnitName.{FullUnitName}
@@ -53,7 +53,7 @@ next_text later payload number (Err fault) = fault_line fault
 -- the lines from a place on, of which the first has this number, so many at most
 unfoldable pub records_from : ℕ → List ℕ → ℕ → ℕ → List ℕ
 records_from zero payload number from = []
-records_from (suc n) payload number from = next_text (records_from n payload (number + 1)) payload number (next_of payload from)
+records_from (suc n) payload number from = next_text (records_from n payload (number + 1)) payload number (next_full_of payload from)
 
 -- the lines of a payload: each record has a byte of its own
 abbrev pub records_text : List ℕ → List ℕ

@@ -1,12 +1,13 @@
 //! The data records of a payload, a line each.
 ghost use Rattle.std.specs.Prelude.{◌≡◌, ◌≤◌, ◌+◌, length};
 ghost use Rattle.paper.specs.Puts.{Puts};
-ghost use Rattle.dif_vif.specs.Spans.{IsSpanOf};
+ghost use Rattle.full_spans.specs.Long.{IsFullSpan};
 ghost use Rattle.frame_inspect.specs.RecordLines.{seen, place_words, value_words, record_line, fault_line, records_text};
 
 use crate::names::{put_name, put_unit};
-use dif_vif::{RecordFault, RecordSpan, next_record};
+use dif_vif::{RecordFault, RecordSpan};
 use full_records::{DataType, FullUnitName, FullValue, full_record_of};
+use full_spans::next_full_record;
 use full_text::put_full_value;
 use paper::{Paper, put_labelled, put_text};
 use record_text::{bytes_at, put_bytes, put_fault_words};
@@ -43,7 +44,7 @@ fn put_value<P: Paper>(paper: &mut P, value: FullValue, unit: FullUnitName, sent
 
 // Puts the line of a record, with its number.
 fn put_record<P: Paper>(paper: &mut P, payload: &[u8], number: u64, span: &RecordSpan)
-    requires { IsSpanOf payload.now span.now }
+    requires { IsFullSpan payload.now span.now }
     ensures { Puts P.takes paper.old (record_line payload.now (number, span.now)) paper.new }
 {
     let record = full_record_of(payload, span);
@@ -71,7 +72,7 @@ pub fn put_records<P: Paper>(paper: &mut P, payload: &[u8])
     let mut listed = 0usize;
     let mut left = payload.len();
     'records: while left > 0 {
-        match next_record(payload, from) {
+        match next_full_record(payload, from) {
             Err(fault) => {
                 put_fault(paper, fault);
                 return;

@@ -19,10 +19,11 @@ use Rattle.full_records.specs.declared.readings.DataType.TheVariants as types
 use Rattle.full_records.specs.declared.values.FullValue.{FullValue}
 use Rattle.full_records.specs.declared.values.FullValue.TheVariants as values
 use Rattle.full_records.specs.Measures.{as_profile, measured, measure_in, named_or}
-use Rattle.full_records.specs.Readings.{profile_kind, number_type, moment_type, data_type}
+use Rattle.full_records.specs.Readings.{profile_kind, number_type, moment_type, is_empty, data_type}
 use Rattle.full_records.specs.Moments.{◌>>=◌, field, year_field, day_in, moment_in}
 use Rattle.full_records.specs.Values.{unread, numbered, found, real_value, value_as}
 use Rattle.full_records.specs.Records.{Agrees}
+use Rattle.full_records.proofs.WideLvars.{short_lvar}
 
 -- ---- quantities
 
@@ -113,12 +114,13 @@ by_field false false true exponent type sent n is number none raw =
 by_field false false false exponent type sent n is number none raw =
     subst (λ v. Agrees n exponent (numbered exponent v)) is (numbered_agrees n exponent number)
 
-by_lvar : (text digits : Bool) (exponent : ℤ) (type : ℕ) (lvar : Option ℕ) (sent : List ℕ)
-    → is_number (number_value type lvar sent) ≡ true
-    → Agrees (number_value type lvar sent) exponent (value_as (cond text types.Text (cond digits types.Digits types.Integer)) exponent type lvar sent)
-by_lvar true digits exponent type lvar sent number = numbered_agrees _ exponent number
-by_lvar false true exponent type lvar sent number = numbered_agrees _ exponent number
-by_lvar false false exponent type lvar sent number = numbered_agrees _ exponent number
+by_lvar : (text digits integer : Bool) (exponent : ℤ) (type : ℕ) (lvar : Option ℕ) (sent : List ℕ)
+    → integer ≡ true → is_number (number_value type lvar sent) ≡ true
+    → Agrees (number_value type lvar sent) exponent (value_as (cond text types.Text (cond digits types.Digits (cond integer types.Integer types.Untyped))) exponent type lvar sent)
+by_lvar true digits integer exponent type lvar sent short number = numbered_agrees _ exponent number
+by_lvar false true integer exponent type lvar sent short number = numbered_agrees _ exponent number
+by_lvar false false true exponent type lvar sent short number = numbered_agrees _ exponent number
+by_lvar false false false exponent type lvar sent short number = absurd cc
 
 number_agrees : (dif : ℕ) (lvar : Option ℕ) (sent : List ℕ) (exponent : ℤ) → data_width dif lvar ≡ Some (length sent)
     → Agrees (number_value (dif % 16) lvar sent) exponent (value_as (number_type (dif % 16) lvar) exponent (dif % 16) lvar sent)
@@ -131,7 +133,7 @@ number_agrees dif None sent exponent width =
     ))
     (λ some five. cond-false (eqb (dif % 16) 0) _ _ some ∙ cond-true (eqb (dif % 16) 5) _ _ five)
 number_agrees dif (Some lvar) sent exponent width =
-    by_lvar (ltb lvar 0xc0) (ltb lvar 0xe0) exponent (dif % 16) (Some lvar) sent (number_is (dif % 16) (Some lvar) sent)
+    by_lvar (ltb lvar 0xc0) (ltb lvar 0xe0) (ltb lvar 0xf0) exponent (dif % 16) (Some lvar) sent (short_lvar dif lvar _ width) (number_is (dif % 16) (Some lvar) sent)
 
 -- ---- dates and times
 
@@ -226,11 +228,16 @@ empty_by false false true six exponent type lvar = refl
 empty_by false false false true exponent type lvar = refl
 empty_by false false false false exponent type lvar = refl
 
+empty_kept : (none : Bool) (exponent : ℤ) (type : ℕ) (lvar : Option ℕ)
+    → value_as (cond none types.Untyped types.ZonedDateTime) exponent type lvar [] ≡ values.Nothing
+empty_kept true exponent type lvar = refl
+empty_kept false exponent type lvar = refl
+
 empty_moment : (type : ℕ) (lvar : Option ℕ) (sent : List ℕ) (exponent : ℤ) → length sent ≡ 0
     → value_as (moment_type type lvar) exponent type lvar sent ≡ values.Nothing
 empty_moment type None [] exponent none =
     empty_by (eqb type 2) (eqb type 3) (eqb type 4) (eqb type 6) exponent type None
-empty_moment type (Some lvar) [] exponent none = refl
+empty_moment type (Some lvar) [] exponent none = empty_kept (is_empty type (Some lvar)) exponent type (Some lvar)
 empty_moment type lvar (byte ∷ sent) exponent none = absurd (omega (arith, none))
 
 -- an LVAR stands for the data field D alone

@@ -1,8 +1,11 @@
 pub use Rattle.dif_vif.specs.Spans
+pub use Rattle.full_spans.specs.Long
+pub mod Profile
 pub mod Measures
 pub mod Qualifiers
 pub mod Readings
 pub mod Moments
 pub mod Values
 pub mod Powers
+pub mod MakersOwn
 pub mod Records

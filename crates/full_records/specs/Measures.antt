@@ -50,6 +50,7 @@ further_fd =
     row 0x20 0x20 quantities.FirstStorage (units.Profile names.NoUnit) (pos 0) ∷
     row 0x21 0x21 quantities.LastStorage (units.Profile names.NoUnit) (pos 0) ∷
     row 0x22 0x22 quantities.StorageBlockSize (units.Profile names.NoUnit) (pos 0) ∷
+    row 0x23 0x23 quantities.TariffDescriptor (units.Profile names.NoUnit) (pos 0) ∷
     row 0x24 0x24 quantities.StorageInterval (units.Profile names.Second) (pos 0) ∷
     row 0x25 0x25 quantities.StorageInterval (units.Profile names.Minute) (pos 0) ∷
     row 0x26 0x26 quantities.StorageInterval (units.Profile names.Hour) (pos 0) ∷

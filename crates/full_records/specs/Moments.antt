@@ -50,21 +50,23 @@ moment_in word = do
   minute ← field 63 0 59 (bits word 0 6)
   Some (record { day = day; hour = hour; minute = minute; invalid = bits word 7 1 == 1; summer = bits word 15 1 == 1 })
 
+-- a week of six bits; 0 where it is none of a year's
+abbrev pub week_of : ℕ → ℕ
+week_of week = if nat_le week 53 then week else 0
+
 -- type I: a date and a time to the second
 unfoldable pub long_moment_in : ℕ → Option LongMoment
 long_moment_in word = do
   day ← day_in word 24 0
   time ← time_in word
-  if nat_le (bits word 40 6) 53
-      then Some (record {
-        day = day;
-        time = time;
-        invalid = bits word 15 1 == 1;
-        summer = bits word 6 1 == 1;
-        leap_year = bits word 7 1 == 1;
-        weekday = bits word 21 3;
-        week = bits word 40 6;
-        deviation_sign = bits word 14 1 == 1;
-        deviation = bits word 46 2;
-      })
-      else None
+  Some (record {
+    day = day;
+    time = time;
+    invalid = bits word 15 1 == 1;
+    summer = bits word 6 1 == 1;
+    leap_year = bits word 7 1 == 1;
+    weekday = bits word 21 3;
+    week = week_of (bits word 40 6);
+    deviation_sign = bits word 14 1 == 1;
+    deviation = bits word 46 2;
+  })

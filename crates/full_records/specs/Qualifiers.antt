@@ -30,7 +30,9 @@ combinable =
     qualifier 0x0d qualifiers.IllegalVifExponent effects.Stays ∷
     qualifier 0x0e qualifiers.VifDifMismatch effects.Stays ∷
     qualifier 0x0f qualifiers.ActionNotImplemented effects.Stays ∷
+    qualifier 0x12 qualifiers.Average effects.Stays ∷
     qualifier 0x13 qualifiers.InverseCompactProfile effects.Opaque ∷
+    qualifier 0x14 qualifiers.RelativeDeviation effects.Stays ∷
     qualifier 0x15 qualifiers.NoData effects.Stays ∷
     qualifier 0x16 qualifiers.DataOverflow effects.Stays ∷
     qualifier 0x17 qualifiers.DataUnderflow effects.Stays ∷

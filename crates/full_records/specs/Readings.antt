@@ -1,5 +1,5 @@
 -- How the data of a record are read: by its quantity, by its qualifiers, and by its data field (EN 13757-3, 6.3, 6.4 and annex A).
-use Rattle.std.specs.Prelude.{ℕ, List, [], ◌∷◌, Option, Some, None, pos, nat_lt, nat_le, ◌==◌, if◌then◌else◌}
+use Rattle.std.specs.Prelude.{ℕ, Bool, ◌||◌, List, [], ◌∷◌, Option, Some, None, pos, nat_lt, nat_le, ◌==◌, if◌then◌else◌}
 use Rattle.record_values.specs.declared.units.Quantity.{Quantity}
 use Rattle.record_values.specs.declared.units.Quantity.TheVariants as profile
 use Rattle.record_values.specs.declared.units.UnitName.{UnitName}
@@ -85,7 +85,17 @@ number_type field None =
 number_type field (Some lvar) =
     if nat_lt lvar 0xc0 then types.Text else
     (if nat_lt lvar 0xe0 then types.Digits else
-    types.Integer)
+    (if nat_lt lvar 0xf0 then types.Integer else
+    types.Untyped))
+
+-- whether there are no data, by the data field or by the LVAR
+abbrev pub is_empty : ℕ → Option ℕ → Bool
+is_empty field None = field == 0
+is_empty field (Some lvar) = lvar == 0 || lvar == 0xc0 || lvar == 0xd0 || lvar == 0xe0
+
+-- the type of data that are kept as bytes, if there are any
+abbrev pub kept_type : DataType → ℕ → Option ℕ → DataType
+kept_type type field lvar = if is_empty field lvar then types.Untyped else type
 
 -- the type of a date or a time, by its data field
 abbrev pub moment_type : ℕ → Option ℕ → DataType
@@ -95,7 +105,7 @@ moment_type field None =
     (if field == 4 then types.DateTime else
     (if field == 6 then types.DateTimeSeconds else
     types.Untyped)))
-moment_type field (Some lvar) = types.ZonedDateTime
+moment_type field (Some lvar) = kept_type types.ZonedDateTime field (Some lvar)
 
 -- bits where the data are an integer
 abbrev pub bits_type : DataType → DataType
@@ -107,7 +117,7 @@ abbrev pub data_type : Kind → ℕ → Option ℕ → DataType
 data_type kinds.Number field lvar = number_type field lvar
 data_type kinds.Bits field lvar = bits_type (number_type field lvar)
 data_type kinds.Moment field lvar = moment_type field lvar
-data_type kinds.DaylightSaving field lvar = types.DaylightSaving
-data_type kinds.ListeningWindow field lvar = types.ListeningWindow
-data_type kinds.Withheld field lvar = types.Withheld
+data_type kinds.DaylightSaving field lvar = kept_type types.DaylightSaving field lvar
+data_type kinds.ListeningWindow field lvar = kept_type types.ListeningWindow field lvar
+data_type kinds.Withheld field lvar = kept_type types.Withheld field lvar
 data_type kinds.Opaque field lvar = types.Untyped

@@ -9,10 +9,12 @@ use Rattle.full_records.specs.declared.readings.Reading.{Reading}
 use Rattle.full_records.specs.declared.readings.DataType.{DataType}
 use Rattle.full_records.specs.declared.values.FullValue.{FullValue}
 use Rattle.full_records.specs.declared.values.FullValue.TheVariants as values
+use Rattle.full_records.specs.declared.makers_own.PlainValue.{PlainValue}
+use Rattle.full_records.specs.MakersOwn.{plain_behind}
 use Rattle.full_records.specs.Measures.{code_behind, measure}
 use Rattle.full_records.specs.Qualifiers.{first_place, qualifiers_from}
 use Rattle.full_records.specs.Readings.{reading, reading_after, data_type}
-use Rattle.full_records.specs.Values.{unread, value_as, is_unset}
+use Rattle.full_records.specs.Values.{unread, is_long, long_value, value_as, is_unset}
 use Rattle.full_records.specs.Powers.{value_after}
 
 -- so many bytes from a place on
@@ -41,7 +43,8 @@ full_data_type bytes span = data_type (full_reading bytes span).kind (span.dif %
 abbrev pub plain_value : List ℕ → RecordSpan → DataType → ℤ → FullValue
 plain_value bytes span type exponent =
     if span.maker then unread (data_of bytes span) else
-    value_as type exponent (span.dif % 16) span.lvar (data_of bytes span)
+    (if is_long span.lvar then long_value type (data_of bytes span) else
+    value_as type exponent (span.dif % 16) span.lvar (data_of bytes span))
 
 -- the value behind all factors and constants
 abbrev pub full_value : List ℕ → RecordSpan → FullValue
@@ -58,6 +61,11 @@ abbrev pub unqualified_value : List ℕ → RecordSpan → FullValue
 unqualified_value bytes span =
     let r = reading (measure bytes span) in
     plain_value bytes span (data_type r.kind (span.dif % 16) span.lvar) r.exponent
+
+-- That value, where a further VIFE says that the data are the manufacturer's own and there is something to tell of it. Where the profile names
+-- the quantity, it is the number that the profile reads.
+abbrev pub full_plain : List ℕ → RecordSpan → Option PlainValue
+full_plain bytes span = plain_behind (full_qualifiers bytes span) (unqualified_value bytes span) (measure bytes span).unit
 
 -- A number, a date or a text of the profile is the same one here, and a number has its power of ten. What the profile leaves raw may be read here.
 abbrev pub Agrees : Value → ℤ → FullValue → Type 0

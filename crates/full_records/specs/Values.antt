@@ -1,5 +1,5 @@
 -- The value of a record (EN 13757-3, annex A).
-use Rattle.std.specs.Prelude.{ℕ, ◌*◌, ◌^◌, Bool, false, ◌&&◌, List, length, Option, Some, None, ℤ, nat_lt, nat_le, ◌==◌, if◌then◌else◌}
+use Rattle.std.specs.Prelude.{ℕ, ◌*◌, ◌^◌, Bool, false, not, ◌&&◌, List, length, Option, Some, None, ℤ, nat_lt, nat_le, ◌==◌, if◌then◌else◌}
 use Rattle.std.specs.List.{list_all}
 use Rattle.dif_vif.specs.Numbers.{low_first}
 use Rattle.record_values.specs.declared.values.Value.{Value}
@@ -65,6 +65,16 @@ value_as types.DateTime exponent field lvar sent = moment_value sent
 value_as types.DateTimeSeconds exponent field lvar sent = long_moment_value sent
 value_as types.Withheld exponent field lvar sent = withheld sent
 value_as _ exponent field lvar sent = unread sent
+
+-- whether an LVAR announces a long number, which isn't read
+abbrev pub is_long : Option ℕ → Bool
+is_long None = false
+is_long (Some lvar) = not (nat_lt lvar 0xf0)
+
+-- data of a long number: kept as bytes, unless nobody is to see them
+abbrev pub long_value : DataType → List ℕ → FullValue
+long_value types.Withheld sent = withheld sent
+long_value type sent = unread sent
 
 -- ---- data that stand for no value
 

@@ -49,7 +49,7 @@ macro_rules! further_rows {
 }
 
 /// The codes of the first VIFE after the VIF FD that the profile leaves out (EN 13757-3, 6.4).
-pub const FURTHER_FD: [FurtherRow; 78] = further_rows![
+pub const FURTHER_FD: [FurtherRow; 79] = further_rows![
     0x00..=0x03 => [Credit] [Currency] -3,
     0x04..=0x07 => [Debit] [Currency] -3,
     0x09..=0x09 => [DeviceType] [profile NoUnit] 0,
@@ -77,6 +77,7 @@ pub const FURTHER_FD: [FurtherRow; 78] = further_rows![
     0x20..=0x20 => [FirstStorage] [profile NoUnit] 0,
     0x21..=0x21 => [LastStorage] [profile NoUnit] 0,
     0x22..=0x22 => [StorageBlockSize] [profile NoUnit] 0,
+    0x23..=0x23 => [TariffDescriptor] [profile NoUnit] 0,
     0x24..=0x24 => [StorageInterval] [profile Second] 0,
     0x25..=0x25 => [StorageInterval] [profile Minute] 0,
     0x26..=0x26 => [StorageInterval] [profile Hour] 0,

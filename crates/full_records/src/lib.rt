@@ -4,9 +4,11 @@
 
 mod further_tables;
 mod laws;
+mod makers_own;
 mod measures;
 mod moments;
 mod powers;
+mod profile_units;
 mod qualifier_table;
 mod qualifiers;
 mod quantities;
@@ -18,8 +20,10 @@ pub use laws::{
     no_code_in_two_rows, quantities_are_the_profiles, values_are_the_profiles,
     values_without_qualifiers,
 };
+pub use makers_own::PlainValue;
 pub use measures::measure_of;
 pub use moments::{Day, LongMoment, Moment, TimeOfDay};
+pub use profile_units::full_unit_of;
 pub use qualifiers::{Effect, MOST_QUALIFIERS, Qualifier, QualifierName, Qualifiers};
 pub use quantities::{FullQuantity, FullUnitName, Measure};
 pub use readings::DataType;

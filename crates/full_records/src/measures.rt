@@ -1,13 +1,14 @@
 //! What a record measures, before any qualifier.
 
 ghost use Rattle.std.specs.Prelude.{◌≡◌, Some};
-ghost use Rattle.dif_vif.specs.Spans.{IsSpanOf};
+ghost use Rattle.full_spans.specs.Long.{IsFullSpan};
 ghost use Rattle.full_records.specs.Measures.{announces_code, as_profile, code_behind, measure, measure_in, measured, named_or, rows_behind};
 
 use crate::further_tables::{FURTHER_FB, FURTHER_FD, measure_in};
+use crate::profile_units::full_unit_of;
 use crate::quantities::{FullQuantity, FullUnitName, Measure};
 use dif_vif::RecordSpan;
-use record_values::{Quantity, Unit, unit_of};
+use record_values::{Quantity, Unit};
 
 /// The VIFs whose code stands in the first VIFE (EN 13757-3, 6.4).
 const VIF_FB: u8 = 0xfb;
@@ -34,7 +35,8 @@ fn named_or(quantity: Quantity, named: Measure, further: Measure) -> Measure
     }
 }
 
-fn announces_code(vif: u8) -> bool
+/// Whether the code stands in the first VIFE.
+pub fn announces_code(vif: u8) -> bool
     ensures { result ≡ announces_code vif }
 {
     vif == VIF_FB || vif == VIF_FD
@@ -42,7 +44,7 @@ fn announces_code(vif: u8) -> bool
 
 /// The code in the first VIFE, which FB and FD announce.
 pub fn code_behind(bytes: &[u8], span: &RecordSpan) -> Option<u8>
-    requires { IsSpanOf bytes.now span.now }
+    requires { IsFullSpan bytes.now span.now }
     ensures { result ≡ code_behind bytes.now span.now }
 {
     if span.maker {
@@ -72,10 +74,10 @@ fn measured_behind(unit: Unit, vif: u8, code: u8) -> Measure
 
 /// What a record of these bytes measures, and in which unit, as its VIF says (EN 13757-3, 6.4).
 pub fn measure_of(bytes: &[u8], span: &RecordSpan) -> Measure
-    requires { IsSpanOf bytes.now span.now }
+    requires { IsFullSpan bytes.now span.now }
     ensures { result ≡ measure bytes.now span.now }
 {
-    let unit = unit_of(bytes, span);
+    let unit = full_unit_of(bytes, span);
     match code_behind(bytes, span) {
         None => as_profile(unit),
         Some(code) => measured_behind(unit, span.vif, code),

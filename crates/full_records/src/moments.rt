@@ -1,7 +1,7 @@
 //! Dates and times (EN 13757-3, annex A, types F, G, I and J).
 
 ghost use Rattle.std.specs.Prelude.{◌≡◌, ◌+◌, ◌^◌, ◌<◌, ◌≤◌};
-ghost use Rattle.full_records.specs.Moments.{day_in, field, long_moment_in, moment_in, time_in, year_field};
+ghost use Rattle.full_records.specs.Moments.{day_in, field, long_moment_in, moment_in, time_in, week_of, year_field};
 
 use record_values::{bits, year_of};
 
@@ -57,7 +57,7 @@ pub struct LongMoment {
     pub leap_year: bool,
     /// The day of the week, 1 for Monday; 0 where it isn't given.
     pub weekday: u8,
-    /// The week, 1 to 53; 0 where it isn't given.
+    /// The week, 1 to 53; 0 where it isn't given, or is none of a year's.
     pub week: u8,
     /// The sign of the deviation of daylight saving, as sent.
     pub deviation_sign: bool,
@@ -147,6 +147,13 @@ pub fn moment_in(word: u64) -> Option<Moment>
     })
 }
 
+/// A week of six bits; 0 where it is none of a year's.
+fn week_of(week: u8) -> u8
+    ensures { result ≡ week_of week }
+{
+    if week <= 53 { week } else { 0 }
+}
+
 /// The date and the time of a word of 48 bits, type I.
 #[tactic(auto, unfolding(crate::specs::Moments::long_moment_in))]
 pub fn long_moment_in(word: u64) -> Option<LongMoment>
@@ -154,10 +161,6 @@ pub fn long_moment_in(word: u64) -> Option<LongMoment>
 {
     let day = day_at(word, 24, 0)?;
     let time = time_in(word)?;
-    let week = bits(word, 40, 6);
-    if week > 53 {
-        return None;
-    }
     Some(LongMoment {
         day,
         time,
@@ -165,7 +168,7 @@ pub fn long_moment_in(word: u64) -> Option<LongMoment>
         summer: bits(word, 6, 1) == 1,
         leap_year: bits(word, 7, 1) == 1,
         weekday: bits(word, 21, 3),
-        week,
+        week: week_of(bits(word, 40, 6)),
         deviation_sign: bits(word, 14, 1) == 1,
         deviation: bits(word, 46, 2),
     })

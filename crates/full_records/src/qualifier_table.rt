@@ -29,7 +29,7 @@ macro_rules! qualifiers {
 }
 
 /// The combinable VIFEs, and what a meter reports of a record (EN 13757-3, 6.4).
-pub const COMBINABLE: [Qualifier; 113] = qualifiers![
+pub const COMBINABLE: [Qualifier; 115] = qualifiers![
     0x01 => TooManyDifes [Stays],
     0x02 => StorageNotImplemented [Stays],
     0x03 => UnitNotImplemented [Stays],
@@ -42,7 +42,9 @@ pub const COMBINABLE: [Qualifier; 113] = qualifiers![
     0x0d => IllegalVifExponent [Stays],
     0x0e => VifDifMismatch [Stays],
     0x0f => ActionNotImplemented [Stays],
+    0x12 => Average [Stays],
     0x13 => InverseCompactProfile [Opaque],
+    0x14 => RelativeDeviation [Stays],
     0x15 => NoData [Stays],
     0x16 => DataOverflow [Stays],
     0x17 => DataUnderflow [Stays],

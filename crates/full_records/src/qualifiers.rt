@@ -35,8 +35,12 @@ pub enum QualifierName {
     VifDifMismatch,
     /// The meter has no such action.
     ActionNotImplemented,
+    /// The average of the quantity.
+    Average,
     /// The data are a profile whose values go back in time.
     InverseCompactProfile,
+    /// How far the value lies from another one, as a part of it.
+    RelativeDeviation,
     /// No data are available.
     NoData,
     /// The value is too large for its data field.

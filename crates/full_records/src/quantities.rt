@@ -61,6 +61,8 @@ pub enum FullQuantity {
     LastStorage,
     /// How many values a block of storage has.
     StorageBlockSize,
+    /// Which tariff and which subunit this is.
+    TariffDescriptor,
     /// The time between two stored values.
     StorageInterval,
     /// Data of the operator.

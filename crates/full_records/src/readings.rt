@@ -1,7 +1,7 @@
 //! How the data of a record are read: by its quantity, by its qualifiers, and by its data field.
 
 ghost use Rattle.std.specs.Prelude.{◌≡◌, ◌%◌};
-ghost use Rattle.full_records.specs.Readings.{bare, data_type, kind_of, moment_type, number_type, profile_kind, reading, reading_after, turned, turned_by};
+ghost use Rattle.full_records.specs.Readings.{bare, data_type, is_empty, kept_type, kind_of, moment_type, number_type, profile_kind, reading, reading_after, turned, turned_by};
 
 use crate::qualifiers::{Effect, Qualifier};
 use crate::quantities::{FullQuantity, FullUnitName, Measure};
@@ -168,7 +168,8 @@ fn number_type(field: u8, lvar: Option<u8>) -> DataType
         },
         Some(0x00..=0xbf) => DataType::Text,
         Some(0xc0..=0xdf) => DataType::Digits,
-        Some(_) => DataType::Integer,
+        Some(0xe0..=0xef) => DataType::Integer,
+        Some(_) => DataType::Untyped,
     }
 }
 
@@ -184,7 +185,28 @@ fn moment_type(field: u8, lvar: Option<u8>) -> DataType
             6 => DataType::DateTimeSeconds,
             _ => DataType::Untyped,
         },
-        Some(_) => DataType::ZonedDateTime,
+        Some(_) => kept_type(DataType::ZonedDateTime, field, lvar),
+    }
+}
+
+/// Whether there are no data, by the data field or by the LVAR.
+fn is_empty(field: u8, lvar: Option<u8>) -> bool
+    ensures { result ≡ is_empty field lvar }
+{
+    match lvar {
+        None => field == 0,
+        Some(lvar) => lvar == 0 || lvar == 0xc0 || lvar == 0xd0 || lvar == 0xe0,
+    }
+}
+
+/// The type of data that are kept as bytes, if there are any.
+fn kept_type(data_type: DataType, field: u8, lvar: Option<u8>) -> DataType
+    ensures { result ≡ kept_type data_type field lvar }
+{
+    if is_empty(field, lvar) {
+        DataType::Untyped
+    } else {
+        data_type
     }
 }
 
@@ -199,9 +221,9 @@ pub fn data_type_of(kind: Kind, field: u8, lvar: Option<u8>) -> DataType
             other => other,
         },
         Kind::Moment => moment_type(field, lvar),
-        Kind::DaylightSaving => DataType::DaylightSaving,
-        Kind::ListeningWindow => DataType::ListeningWindow,
-        Kind::Withheld => DataType::Withheld,
+        Kind::DaylightSaving => kept_type(DataType::DaylightSaving, field, lvar),
+        Kind::ListeningWindow => kept_type(DataType::ListeningWindow, field, lvar),
+        Kind::Withheld => kept_type(DataType::Withheld, field, lvar),
         Kind::Opaque => DataType::Untyped,
     }
 }

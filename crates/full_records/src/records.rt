@@ -1,17 +1,20 @@
 //! A data record, as the whole standard reads it.
 
 ghost use Rattle.std.specs.Prelude.{◌≡◌, ◌+◌, ◌≤◌, ◌%◌, length, unsigned_abs};
-ghost use Rattle.dif_vif.specs.Spans.{IsSpanOf};
+ghost use Rattle.full_spans.specs.Long.{IsFullSpan};
 ghost use Rattle.full_records.specs.Measures.{measure};
 ghost use Rattle.full_records.specs.Powers.{power_in};
-ghost use Rattle.full_records.specs.Records.{full_data_type, full_qualifiers, full_reading, full_unset, full_value, further_vifes, part, plain_value};
+ghost use Rattle.full_records.specs.MakersOwn.{plain_behind};
+ghost use Rattle.full_records.specs.Readings.{data_type, kind_of};
+ghost use Rattle.full_records.specs.Records.{full_data_type, full_plain, full_qualifiers, full_reading, full_unset, full_value, further_vifes, part, plain_value};
 
+use crate::makers_own::{PlainValue, are_makers_own, told_plain};
 use crate::measures::{code_behind, measure_of};
 use crate::powers::value_after;
-use crate::qualifiers::{Qualifiers, first_place, qualifiers_of};
-use crate::quantities::{FullQuantity, FullUnitName};
-use crate::readings::{DataType, data_type_of, reading_of};
-use crate::values::{FullValue, is_unset, unread, value_as};
+use crate::qualifiers::{Qualifier, Qualifiers, first_place, qualifiers_of};
+use crate::quantities::{FullQuantity, FullUnitName, Measure};
+use crate::readings::{DataType, data_type_of, kind_of, reading_of};
+use crate::values::{FullValue, is_long, is_unset, long_value, unread, value_as};
 use dif_vif::RecordSpan;
 
 /// What a data record says.
@@ -29,6 +32,8 @@ pub struct FullRecord {
     pub unset: bool,
     /// The further VIFEs, in their order.
     pub qualifiers: Qualifiers,
+    /// What the VIF alone makes of data that are the manufacturer's own, where it makes something of them.
+    pub plain: Option<PlainValue>,
 }
 
 /// So many bytes from a place on.
@@ -43,7 +48,7 @@ fn part(bytes: &[u8], place: usize, count: usize) -> &[u8]
 
 /// The VIFEs behind the code.
 fn further_vifes<'a>(bytes: &'a [u8], span: &RecordSpan) -> &'a [u8]
-    requires { IsSpanOf bytes.now span.now }
+    requires { IsFullSpan bytes.now span.now }
     ensures value { result.now ≡ further_vifes bytes.now span.now }
     ensures few { length result.now ≤ 10 }
 {
@@ -58,7 +63,7 @@ fn further_vifes<'a>(bytes: &'a [u8], span: &RecordSpan) -> &'a [u8]
 }
 
 fn plain_value(bytes: &[u8], span: &RecordSpan, data_type: DataType, exponent: i8) -> FullValue
-    requires { IsSpanOf bytes.now span.now }
+    requires { IsFullSpan bytes.now span.now }
     ensures exact { result ≡ plain_value bytes.now span.now data_type exponent }
     ensures small { unsigned_abs (power_in result) ≤ 128 }
 {
@@ -66,12 +71,35 @@ fn plain_value(bytes: &[u8], span: &RecordSpan, data_type: DataType, exponent: i
     if span.maker {
         return unread(sent);
     }
+    if is_long(span.lvar) {
+        return long_value(data_type, sent);
+    }
     value_as(data_type, exponent, span.dif, span.lvar, sent)
+}
+
+/// What the VIF alone makes of the data, where the further VIFEs say that they are the manufacturer's own.
+fn plain_of(
+    bytes: &[u8],
+    span: &RecordSpan,
+    measure: Measure,
+    qualifiers: &[Qualifier],
+) -> Option<PlainValue>
+    requires { IsFullSpan bytes.now span.now }
+    ensures { result ≡ plain_behind qualifiers.now
+        (plain_value bytes.now span.now (data_type (kind_of measure.quantity) (span.now.dif % 16) span.now.lvar) measure.exponent)
+        measure.unit }
+{
+    if !are_makers_own(qualifiers) {
+        return None;
+    }
+    let data_type = data_type_of(kind_of(measure.quantity), span.dif % 16, span.lvar);
+    let value = plain_value(bytes, span, data_type, measure.exponent);
+    told_plain(value, measure.unit)
 }
 
 /// What a data record of these bytes says, by the whole standard (EN 13757-3, clause 6 and annex A).
 pub fn full_record_of(bytes: &[u8], span: &RecordSpan) -> FullRecord
-    requires { IsSpanOf bytes.now span.now }
+    requires { IsFullSpan bytes.now span.now }
     // The quantity is that of the VIF, or of its first VIFE, and the unit that in which the value counts.
     ensures quantity { result.quantity ≡ (measure bytes.now span.now).quantity }
     ensures unit { result.unit ≡ (full_reading bytes.now span.now).unit }
@@ -81,13 +109,16 @@ pub fn full_record_of(bytes: &[u8], span: &RecordSpan) -> FullRecord
     ensures unset { result.unset ≡ full_unset bytes.now span.now }
     // Each further VIFE is named, in its order.
     ensures qualifiers { result.qualifiers ≡ full_qualifiers bytes.now span.now }
+    // What the VIF alone makes of the manufacturer's own data is told beside the value, which is raw.
+    ensures plain { result.plain ≡ full_plain bytes.now span.now }
 {
     let measure = measure_of(bytes, span);
     let qualifiers = qualifiers_of(first_place(span.vif), further_vifes(bytes, span));
     let reading = reading_of(measure, qualifiers.as_slice());
     let data_type = data_type_of(reading.kind, span.dif % 16, span.lvar);
-    let plain = plain_value(bytes, span, data_type, reading.exponent);
-    let value = value_after(plain, qualifiers.as_slice());
+    let unchanged = plain_value(bytes, span, data_type, reading.exponent);
+    let value = value_after(unchanged, qualifiers.as_slice());
+    let plain = plain_of(bytes, span, measure, qualifiers.as_slice());
     let unset = is_unset(data_type, part(bytes, span.data_at, span.data_len));
     FullRecord {
         quantity: measure.quantity,
@@ -96,5 +127,6 @@ pub fn full_record_of(bytes: &[u8], span: &RecordSpan) -> FullRecord
         value,
         unset,
         qualifiers,
+        plain,
     }
 }

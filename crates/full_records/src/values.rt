@@ -4,7 +4,7 @@ ghost use Rattle.std.specs.Prelude.{◌≡◌, ◌≤◌, ◌*◌, ◌%◌, ◌^
 ghost use Rattle.std.specs.List.{list_all};
 ghost use Rattle.dif_vif.specs.Numbers.{low_first};
 ghost use Rattle.dif_vif.specs.Spelling.{data_width};
-ghost use Rattle.full_records.specs.Values.{all_ones, bits_value, day_value, is_lowest, is_unset, long_moment_value, moment_value, numbered, real_value, time_value, unread, value_as, withheld};
+ghost use Rattle.full_records.specs.Values.{all_ones, bits_value, day_value, is_long, is_lowest, is_unset, long_moment_value, long_value, moment_value, numbered, real_value, time_value, unread, value_as, withheld};
 
 use crate::moments::{
     Day, LongMoment, Moment, TimeOfDay, day_in, long_moment_in, moment_in, time_in,
@@ -154,6 +154,26 @@ fn long_moment_value(sent: &[u8]) -> FullValue
     match long_moment_in(unsigned_of(sent) as u64) {
         Some(moment) => FullValue::LongMoment(moment),
         None => FullValue::Raw,
+    }
+}
+
+/// Whether an LVAR announces a long number, which isn't read (EN 13757-3, 6.3).
+pub fn is_long(lvar: Option<u8>) -> bool
+    ensures { result ≡ is_long lvar }
+{
+    match lvar {
+        None => false,
+        Some(lvar) => !(lvar < 0xf0),
+    }
+}
+
+/// The value of data of a long number: they are kept as bytes, unless nobody is to see them.
+pub fn long_value(data_type: DataType, sent: &[u8]) -> FullValue
+    ensures { result ≡ long_value data_type sent.now }
+{
+    match data_type {
+        DataType::Withheld => withheld(sent),
+        _ => unread(sent),
     }
 }
 

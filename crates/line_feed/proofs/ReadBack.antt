@@ -1,10 +1,11 @@
 -- What is heard is a telegram, and its line is read back.
-use Rattle.std.proofs.Common.{◌≡◌, ◌==◌, ◌-◌, ℕ, Bool, true, false, cond, List, [], ◌∷◌, length, drop, slice_index}
+use Rattle.std.proofs.Common.{◌≡◌, ◌==◌, ◌-◌, ℕ, Bool, true, false, cond, List, [], ◌∷◌, ◌++◌, length, drop, slice_index}
 use Rattle.std.proofs.Common.{◌+◌, ◌≤◌, ◌<◌, arith, Option, Some, None, Result, Ok, Err, refl, sym, ap, ◌∙◌, subst, inl, inr}
 use Rattle.std.specs.Prelude.{nat_lt, codes}
 use Rattle.std.specs.Option.{ok_or}
 use Rattle.std.specs.Result.{result_ok}
 use Rattle.std.specs.Str.{is_utf8}
+use Rattle.std.specs.Str.Lines.{lines}
 use Rattle.hex.specs.Hex.{decode_of}
 use Rattle.hex.specs.declared.error.FromHexError.{FromHexError}
 use Rattle.hex.proofs.HexLemmas.{decode_of-ok}
@@ -25,7 +26,9 @@ use Rattle.frame_formats.proofs.Checked.{bytes-take, bytes-drop}
 use Rattle.frame_formats.proofs.Division.{each_byte}
 use Rattle.frame_formats.proofs.FrameLaws.{one_frame_a}
 use Rattle.frame_formats.proofs.EitherFormat.{frames_are_decoded, telegrams_are_bytes}
-use Rattle.made_input.proofs.OwnLines.{frame_bytes, frame_few, line_read}
+use Rattle.frame_lines.specs.Laws.{IsWhole}
+use Rattle.frame_lines.proofs.ReadBack.{lines_stand_alone}
+use Rattle.frame_lines.proofs.ReadBack as frame_lines_read
 use Rattle.line_feed.specs.declared.heard.Reception.{Reception}
 use Rattle.line_feed.specs.declared.printings.Printing.{Printing}
 use Rattle.line_feed.specs.declared.printings.Printing.TheVariants as printings
@@ -41,18 +44,8 @@ use Rattle.line_feed.specs.Rtl433.{passes, has_text, time_in, data_in, json_hear
 use Rattle.line_feed.specs.Moments.{moment_in}
 use Rattle.line_feed.specs.Hex.{unmarked}
 use Rattle.line_feed.specs.Lines.{heard_in}
-use Rattle.line_feed.specs.Laws.{IsWhole, LinesAreReadBack, TelegramsAreWhole}
+use Rattle.line_feed.specs.Laws.{LinesAreReadBack, TelegramsAreWhole}
 use Rattle.line_feed.proofs.Telegrams.{is_found}
-
--- ---- the line
-
-pub lines_are_read_back : LinesAreReadBack
-lines_are_read_back at t below whole =
-    let one = one_frame_a t whole.telegram whole.bytes in
-    record {
-      line = line_read at (frame_a t) (frame_bytes t whole.bytes) (frame_few t whole.telegram.most) below;
-      decoded_is = one.1;
-    }
 
 -- one answer has one value
 taken : {A E : Type 0} (x z : A) (r : Result A E) → r ≡ Ok x → r ≡ Ok z → x ≡ z
@@ -222,3 +215,15 @@ read_in printings.Hex line heard is = last_read telegram_in telegram_read heard_
 pub telegrams_are_whole : TelegramsAreWhole
 telegrams_are_whole printing line heard is =
     read_in printing line heard (guard_ok (nat_lt 4096 (length line)) reasons.TooLong (heard_in printing line) heard is).1
+
+-- ---- what is printed
+
+pub lines_are_read_back : LinesAreReadBack
+lines_are_read_back printing line heard text is printed =
+    let whole = telegrams_are_whole printing line heard is in
+    record {
+      at = printed.at;
+      moment = printed.moment;
+      first = λ rest. ap (λ t. lines (t ++ rest)) printed.text_is ∙ (lines_stand_alone printed.at heard.telegram printed.below whole).first rest;
+      read = frame_lines_read.lines_are_read_back printed.at heard.telegram printed.below whole;
+    }

@@ -3,7 +3,7 @@ use Rattle.std.specs.Prelude.{ℕ, ◌≡◌, ◌+◌, ◌^◌, ◌<◌, ◌&&�
 use Rattle.std.specs.Prelude.{Result, Ok, Err, is_ok, if◌then◌else◌}
 use Rattle.outer_io.specs.Faults.{next_count}
 use Rattle.paper.specs.Puts.{Puts}
-use Rattle.made_input.specs.Lines.{frame_line}
+use Rattle.frame_lines.specs.Lines.{frame_line}
 use Rattle.line_feed.specs.declared.heard.Reception.{Reception}
 use Rattle.line_feed.specs.declared.moments.Moment.{Moment}
 use Rattle.line_feed.specs.declared.printings.Printing.{Printing}

@@ -1,7 +1,6 @@
 //! Lines that are fed one after another.
 ghost use Rattle.std.specs.Prelude.{◌≡◌, ◌<◌, ◌^◌, Ok, [], if◌then◌else◌};
 ghost use Rattle.paper.specs.Puts.{Puts};
-ghost use Rattle.made_input.specs.Lines.{frame_line};
 ghost use Rattle.line_feed.specs.Notes.{zone_text};
 ghost use Rattle.line_feed.specs.Feeding.{IsMoment, can_name_zone, is_of_some_zone, lacks_zone};
 
@@ -13,10 +12,10 @@ use crate::notes::{put_note, put_zone_note};
 use crate::printings::Printing;
 use crate::reasons::NotTaken;
 use crate::teller::StreamTeller;
-use frame_formats::{Telegram, encode_a};
+use frame_lines::put_frame_line;
 use line_teller::Sheet;
 use outer_io::Memory;
-use paper::{Paper, put_labelled, put_labelled_bytes, put_text};
+use paper::Paper;
 use std::alloc::Global;
 use std::marker::Model;
 
@@ -37,18 +36,6 @@ impl<C: Clock + Drop> Model for Feed<C> {
     ghost Value = { Fed };
 
     ghost view = { λ f. record { printing = f.printing; zone_noted = f.zone_noted; taken = f.taken; left_out = f.left_out } };
-}
-
-// Puts the line of a telegram.
-#[tactic(auto, unfolding(made_input::specs::Lines::frame_line), using(paper::proofs::Calls::three_make))]
-fn put_line<P: Paper>(paper: &mut P, at: u64, telegram: &Telegram)
-    ensures { Puts P.takes paper.old (frame_line at telegram.now) paper.new }
-{
-    let mut frame = [0; 290];
-    let len = encode_a(telegram, &mut frame);
-    put_labelled(paper, "A ", at);
-    put_labelled_bytes(paper, " ", &frame[..len]);
-    put_text(paper, "\n");
 }
 
 // The moment that a line names, or else the clock's.
@@ -150,7 +137,7 @@ impl<C: Clock + Drop> Feed<C> {
         ensures fed { self.new ≡ fed_after self.old (Ok heard.now) }
     {
         let at = moment_or_now(heard.moment, &self.clock);
-        put_line(text, at, &heard.telegram);
+        put_frame_line(text, at, &heard.telegram);
         let lacks = lacks_zone(self.printing, heard);
         put_zone_note_if(note, number, lacks && !self.zone_noted);
         self.zone_noted = lacks || self.zone_noted;

@@ -6,7 +6,8 @@ pub fn telegrams_are_whole()
     ensures { TelegramsAreWhole }
 {}
 
-/// A line that is fed is read as a frame of format A, heard at its moment, which is decoded to the telegram.
+/// What is printed for a line that is taken is a line, whatever comes behind it, which is read as the telegram's frame of format A, heard at
+/// the moment of the line.
 pub fn lines_are_read_back()
     ensures { LinesAreReadBack }
 {}

@@ -1,32 +1,30 @@
 -- The texts of a made session: each is within a receiver's limits, and its lines are those of the telegrams.
 use Rattle.std.proofs.Common.{◌≡◌, ◌⊎◌, ℕ, ◌+◌, ◌-◌, ◌*◌, ◌^◌, ◌<◌, ◌≤◌, ◌||◌, nat_lt, false, cond, List, [], ◌∷◌}
-use Rattle.std.proofs.Common.{◌++◌, length, map, refl, sym, ap, subst, ◌∙◌, ⊎_elim, arith, append_assoc, length-append}
+use Rattle.std.proofs.Common.{◌++◌, length, map, refl, sym, ap, subst, ◌∙◌, ⊎_elim, arith, length-append}
 use Rattle.std.specs.Prelude.{codes}
 use Rattle.std.specs.List.{All, concat, range_with_len}
 use Rattle.std.specs.Str.Lines.{lines}
-use Rattle.std.specs.Fmt.{decimal}
 use Rattle.std.proofs.Math.Nat.{div-le_self, mod-lt}
 use Rattle.std.proofs.lemmas.Simd.{map-map}
 use Rattle.std.proofs.lemmas.Bool.Decides.{nat_tests}
 use Rattle.std.proofs.lemmas.List.Elements.{All-head, All-tail, All-from_get_or}
 use Rattle.std.proofs.lemmas.List.FromFn.{length-map-range_with_len, get_or-map-range_with_len}
 use Rattle.std.proofs.lemmas.List.Sorted.{length_permutation, All-permutation}
-use Rattle.hex.specs.Hex.{encode_lower}
-use Rattle.paper.specs.Pieces.{labelled, labelled_bytes}
 use Rattle.frame_formats.specs.Crc.{IsBytes}
-use Rattle.frame_formats.specs.Decoding.{frame_a}
-use Rattle.frame_formats.proofs.Checked.{byte_at}
-use Rattle.roster_file.proofs.Words.{IsWord, IsPrinted, number_above, hex_word, joined_printed, ended_line}
+use Rattle.written_words.specs.Words.{IsPrinted}
+use Rattle.written_words.proofs.Words.{ended_line}
 use Rattle.line_reader.specs.Lines.{is_over, whole_lines, all_lines}
 use Rattle.meter_address.specs.Commission.{Commissioned}
 use Rattle.made_input.specs.Meters.{meter_at, meters_of}
 use Rattle.made_input.specs.Uplinks.{uplink, stranger}
-use Rattle.made_input.specs.Lines.{turn_of, round_of, telegram_of, frame_text, frame_line, texts_of, lines_of, heard}
+use Rattle.frame_lines.specs.Lines.{frame_text, frame_line}
+use Rattle.frame_lines.proofs.ReadBack.{text_printed, text_short}
+use Rattle.made_input.specs.Lines.{turn_of, round_of, telegram_of, texts_of, lines_of, heard}
 use Rattle.made_input.specs.Laws.{HasLines}
 use Rattle.made_input.proofs.Genuine as genuine
 use Rattle.made_input.proofs.Hearing.{heard-map}
 use Rattle.made_input.proofs.Orders.{heard_in_another_order}
-use Rattle.made_input.proofs.OwnLines.{turns_are_taken, frame_bytes, frame_few, line_short}
+use Rattle.made_input.proofs.OwnLines.{turns_are_taken}
 
 -- ---- texts of lines
 
@@ -67,17 +65,7 @@ has_lines texts each few =
 -- ---- the telegrams' lines
 
 line_fits : (k : ℕ) (t : List ℕ) → IsBytes t → length t ≤ 256 → k < 2 ^ 64 → IsLine (frame_text k t)
-unfolding labelled labelled_bytes
-line_fits k t all few small =
-    let frame : List ℕ = frame_a t in
-    let letter : IsWord (codes "A") = record { passed = refl } in
-    let digits : IsWord (encode_lower frame) = hex_word frame (λ i. byte_at frame i (frame_bytes t all)) in
-    let joined : IsPrinted (codes "A " ++ (decimal k ++ (codes " " ++ encode_lower frame))) =
-    joined_printed (codes "A") (decimal k ∷ encode_lower frame ∷ []) letter (number_above 32 k (omega arith), (digits, tt)) in
-    record {
-      printed = subst IsPrinted (sym (append_assoc (codes "A ") (decimal k) (codes " " ++ encode_lower frame))) joined;
-      short = line_short k frame (frame_few t few) small;
-    }
+line_fits k t all few small = record { printed = text_printed k t all; short = text_short k t few small }
 
 stranger_fits : (k : ℕ) → k < 2 ^ 64 → IsLine (frame_text k (stranger k))
 unfolding stranger

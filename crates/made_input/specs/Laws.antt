@@ -12,6 +12,7 @@ use Rattle.downlink_maker.specs.Downlink.{plain_content}
 use Rattle.line_reader.specs.declared.line.Line.TheVariants.{Frame}
 use Rattle.line_reader.specs.Grammar.{line_of}
 use Rattle.line_reader.specs.Lines.{is_over, all_lines}
+use Rattle.frame_lines.specs.Lines.{frame_text}
 use Rattle.meter_slots.specs.declared.entry.Event.TheVariants.{Hear}
 use Rattle.meter_slots.specs.Hearing.{auth_in}
 use Rattle.meter_slots.specs.Telling.{event_of_line}
@@ -19,7 +20,7 @@ use Rattle.roster_file.specs.Enrolled.{IsEnrolled}
 use Rattle.roster_file.specs.Roster.{roster_of as read_as}
 use Rattle.made_input.specs.Meters.{meter_at, meters_of, roster_of}
 use Rattle.made_input.specs.Uplinks.{volume, uplink, stranger}
-use Rattle.made_input.specs.Lines.{turn_of, round_of, telegram_of, frame_text, texts_of, heard}
+use Rattle.made_input.specs.Lines.{turn_of, round_of, telegram_of, texts_of, heard}
 use Rattle.made_input.specs.Made.{Session, made}
 
 -- ---- turns

@@ -1,9 +1,8 @@
 -- The lines of a made session, and in which order each receiver hears them.
-use Rattle.std.specs.Prelude.{ℕ, ◌+◌, ◌-◌, ◌/◌, ◌%◌, List, [], ◌∷◌, ◌++◌, length, map, take, drop, slice_get, codes, Option, Some, None}
+use Rattle.std.specs.Prelude.{ℕ, ◌+◌, ◌-◌, ◌/◌, ◌%◌, List, [], ◌∷◌, ◌++◌, length, map, take, drop, slice_get, Option, Some, None}
 use Rattle.std.specs.List.{range_with_len}
-use Rattle.paper.specs.Pieces.{labelled, labelled_bytes}
 use Rattle.meter_address.specs.Commission.{Commissioned}
-use Rattle.frame_formats.specs.Decoding.{frame_a}
+use Rattle.frame_lines.specs.Lines.{frame_text, frame_line}
 use Rattle.made_input.specs.Uplinks.{uplink, stranger}
 
 -- ---- the telegrams, counted from 1: the meters and a stranger take turns
@@ -24,13 +23,7 @@ sent_by None round number = stranger number
 abbrev pub telegram_of : List Commissioned → ℕ → List ℕ
 telegram_of meters number = sent_by (slice_get meters (turn_of (length meters) number)) (round_of (length meters) number) number
 
--- the line of a telegram without its end: `A`, its number as the moment, its frame of format A
-abbrev pub frame_text : ℕ → List ℕ → List ℕ
-frame_text number t = labelled (codes "A ") number ++ labelled_bytes (codes " ") (frame_a t)
-
-unfoldable pub frame_line : ℕ → List ℕ → List ℕ
-frame_line number t = frame_text number t ++ codes "\n"
-
+-- the line of a telegram, whose number is its moment
 abbrev pub line_at : List Commissioned → ℕ → List ℕ
 line_at meters number = frame_line number (telegram_of meters number)
 

@@ -2,15 +2,17 @@
 ghost use Rattle.std.specs.Prelude.{◌≡◌, ℕ, ◌+◌, ◌<◌, ◌≤◌, ◌++◌, ◌^◌, List, length, map, IfOk, OnOk};
 ghost use Rattle.std.specs.List.{concat};
 ghost use Rattle.paper.specs.Puts.{Puts};
-ghost use Rattle.made_input.specs.Lines.{telegram_of, frame_line, line_at, rotated};
+ghost use Rattle.frame_lines.specs.Lines.{frame_line};
+ghost use Rattle.made_input.specs.Lines.{telegram_of, line_at, rotated};
 ghost use Rattle.made_input.specs.Runs.{lines_behind};
 
 use crate::line_paper::written_line;
 use crate::senders::Sender;
 use crate::uplinks::{stranger, uplink};
-use frame_formats::{Telegram, encode_a};
+use frame_formats::Telegram;
+use frame_lines::put_frame_line;
 use outer_io::Memory;
-use paper::{Paper, Printed, put_labelled, put_labelled_bytes, put_text};
+use paper::{Paper, Printed};
 use std::alloc::Global;
 
 // The telegram with this number: the meters and a stranger take turns.
@@ -28,7 +30,7 @@ fn telegram(meters: &[Sender], number: u32) -> Telegram
     }
 }
 
-// A line: the number of a telegram, and its frame.
+// The line of a telegram, whose number is its moment.
 #[derive(Drop)]
 struct FrameLine<'a> {
     number: u32,
@@ -38,13 +40,8 @@ struct FrameLine<'a> {
 impl Printed for FrameLine<'_> {
     ghost text = { λ l. frame_line l.number l.telegram.now };
 
-    #[tactic(auto, unfolding(crate::specs::Lines::frame_line), using(paper::proofs::Calls::three_make))]
     fn print<P: Paper>(&self, paper: &mut P) {
-        let mut frame = [0; 290];
-        let len = encode_a(self.telegram, &mut frame);
-        put_labelled(paper, "A ", u64::from(self.number));
-        put_labelled_bytes(paper, " ", &frame[..len]);
-        put_text(paper, "\n");
+        put_frame_line(paper, u64::from(self.number), self.telegram);
     }
 }
 

@@ -8,10 +8,8 @@ pub mod Journals
 pub mod KeyLaws
 pub mod NothingHeld
 pub mod Passages
-pub mod PassingWorlds
 pub mod PayloadLaws
 pub mod Pieces
-pub mod Places
 pub mod ReadingLaws
 pub mod Renumbering
 pub mod Repeats

@@ -1,11 +1,9 @@
 pub mod Acting
-pub mod Directory
 pub mod Hearing
 pub mod Journal
 pub mod Keeping
 pub mod Laws
 pub mod Passing
-pub mod PassingWorld
 pub mod Restoring
 pub mod Resuming
 pub mod Sending

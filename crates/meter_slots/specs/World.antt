@@ -9,7 +9,6 @@ use Rattle.meter_slots.specs.declared.entry.Outcome.{Outcome}
 use Rattle.meter_slots.specs.declared.step.Step.{Step}
 use Rattle.meter_slots.specs.declared.step.Landed.{Landed}
 use Rattle.meter_slots.specs.declared.step.Landed.TheVariants.{Slot, Stranger}
-use Rattle.meter_slots.specs.Directory.{AreApart}
 use Rattle.meter_slots.specs.Journal.{Start, SlotView, outcome}
 
 -- ---- the journal of a meter's own steps
@@ -121,8 +120,3 @@ fresh_slot own c = record { own = own; start = c; journal = [] }
 
 abbrev pub address_of_slot : SlotView → Address
 address_of_slot b = b.start.address
-
--- the directory has the addresses of the slots, which differ
-pub record IsOrdered (slots : List SlotView) (directory : List Address) : Type 0 where
-  pub places : directory ≡ map address_of_slot slots
-  pub apart : AreApart directory

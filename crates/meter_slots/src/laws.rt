@@ -20,7 +20,6 @@ ghost use Rattle.meter_slots.specs.World.{Call, journal_of, is_for, slot_of, wor
 ghost use Rattle.meter_slots.specs.Laws.{stored_counters, moment_read, stored_moments, reading_added};
 ghost use Rattle.meter_slots.specs.Laws.{sent_counters, downlinks_in, AreReady, PutsPayload, CarriesPayload, LeavesKeys};
 ghost use Rattle.meter_slots.specs.MacLaw.{MacsDecide};
-ghost use Rattle.meter_slots.specs.PassingWorld.{PassingIsKnown};
 ghost use Rattle.meter_slots.specs.Laws.{IsAbove, last_stored, IsRising, AreBelow, IsRefused, IsLeft, IsLegal, call_in};
 
 /// In mode 7 the stored counters strictly rise, from above the one that was known before.
@@ -183,11 +182,4 @@ pub fn sent_counters_rise_over_reserves()
     ensures lost { (c : Start) (own : Address) (lost later : List Entry) (most : ℕ) → Legal c own lost
         → length (sent_counters lost) ≤ most → Legal (reserved most c) own later
         → IsRising (Some c.orders.down) (sent_counters (lost ++ later)) }
-{}
-
-/// A slot that keeps no journal, and the last reading of its steps, know of the meter what the slot knows that keeps it; and there was a step
-/// exactly where that journal has one.
-#[tactic(auto, using(crate::proofs::PassingWorlds::passing_is_known))]
-pub fn passing_meters_know_the_same()
-    ensures { PassingIsKnown }
 {}

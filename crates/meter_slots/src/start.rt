@@ -1,10 +1,8 @@
 //! What a slot begins with.
-ghost use Rattle.std.specs.Prelude.{◌≡◌, ◌<◌, ◌≤◌, ◌^◌, IfOk, length, map, take};
-ghost use Rattle.meter_slots.specs.Directory.{AreApart};
+ghost use Rattle.std.specs.Prelude.{◌≡◌, ◌≤◌, IfOk, length, map, take};
 ghost use Rattle.meter_slots.specs.Laws.{IsPayload, HasPayload, AreReady};
 
 use crate::commands::Commands;
-use crate::directory::Directory;
 use crate::fragments::{Fragments, hold, tick};
 use crate::known::KnownMeter;
 use crate::reading::{Reading, Room};
@@ -167,14 +165,4 @@ pub fn addresses_of(alloc: Global, starts: &[MeterStart]) -> Result<Vec<Address>
         addresses.push(starts[place].address())?;
     }
     Ok(addresses)
-}
-
-/// Where each meter's slot stands.
-pub(crate) fn directory_of(alloc: Global, starts: &[MeterStart]) -> Result<Directory, Memory>
-    requires apart { AreApart (map (λ c. c.address) starts.now) }
-    requires few { length starts.now < 2 ^ 32 }
-    ensures { IfOk result (λ directory. directory ≡ map (λ c. c.address) starts.now) }
-{
-    let addresses = addresses_of(alloc, starts)?;
-    Directory::new(alloc, addresses.as_slice())
 }

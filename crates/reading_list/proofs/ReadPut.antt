@@ -1,25 +1,27 @@
 -- What a record says, put piece by piece.
-use Rattle.std.proofs.Common.{◌≡◌, ℕ, ◌++◌, Bool, List, refl}
+use Rattle.std.proofs.Common.{◌≡◌, ℕ, ◌++◌, Bool, List, Option, refl}
 use Rattle.record_values.specs.declared.units.Quantity.{Quantity}
 use Rattle.full_records.specs.declared.quantities.FullQuantity.{FullQuantity}
 use Rattle.full_records.specs.declared.quantities.FullUnitName.{FullUnitName}
+use Rattle.full_records.specs.declared.makers_own.PlainValue.{PlainValue}
 use Rattle.full_records.specs.declared.qualifiers.Qualifier.{Qualifier}
 use Rattle.full_records.specs.declared.readings.DataType.{DataType}
 use Rattle.full_records.specs.declared.values.FullValue.{FullValue}
 use Rattle.paper.specs.Puts.{Puts}
-use Rattle.paper.proofs.Calls.{five_make}
+use Rattle.paper.proofs.Calls.{six_make}
 use Rattle.reading_list.specs.declared.forms.Form.{Form}
-use Rattle.reading_list.specs.RecordLines.{measure_members, value_members, kind_members, profile_member, byte_members}
+use Rattle.reading_list.specs.RecordLines.{measure_members, value_members, kind_members, profile_member, plain_member, byte_members}
 
 -- the pieces of what was read are those of what is meant
-pub pieces_put : {P : Type 0} {takes : P → List ℕ → P → Type 0} {p0 p1 p2 p3 p4 p5 : P} (form : Form) {q q' : FullQuantity} {u u' : FullUnitName}
-    {v v' : FullValue} {n n' : Bool} {s s' : List ℕ} {qs qs' : List Qualifier} {t t' : DataType} {named named' : Quantity} {m m' b b' : List ℕ}
-    → q ≡ q' → u ≡ u' → v ≡ v' → n ≡ n' → s ≡ s' → qs ≡ qs' → t ≡ t' → named ≡ named' → m ≡ m' → b ≡ b'
+pub pieces_put : {P : Type 0} {takes : P → List ℕ → P → Type 0} {p0 p1 p2 p3 p4 p5 p6 : P} (form : Form) {q q' : FullQuantity} {u u' : FullUnitName}
+    {v v' : FullValue} {n n' : Bool} {s s' : List ℕ} {qs qs' : List Qualifier} {t t' : DataType} {named named' : Quantity}
+    {p p' : Option PlainValue} {m m' b b' : List ℕ}
+    → q ≡ q' → u ≡ u' → v ≡ v' → n ≡ n' → s ≡ s' → qs ≡ qs' → t ≡ t' → named ≡ named' → p ≡ p' → m ≡ m' → b ≡ b'
     → Puts takes p0 (measure_members form q u) p1 → Puts takes p1 (value_members form v n s) p2
-    → Puts takes p2 (kind_members form qs n t) p3 → Puts takes p3 (profile_member form named q) p4 → Puts takes p4 (byte_members form m b) p5
-    → Puts takes p0 (measure_members form q' u' ++ value_members form v' n' s' ++ kind_members form qs' n' t'
-    ++ profile_member form named' q' ++ byte_members form m' b') p5
-pieces_put form {q} {u} {v} {n} {s} {qs} {t} {named} {m} {b} q_is u_is v_is n_is s_is qs_is t_is named_is m_is b_is one two three four five =
-    rw (← q_is, ← u_is, ← v_is, ← n_is, ← s_is, ← qs_is, ← t_is, ← named_is, ← m_is, ← b_is)
-    (five_make (measure_members form q u ++ value_members form v n s ++ kind_members form qs n t ++ profile_member form named q
-    ++ byte_members form m b) one two three four five refl)
+    → Puts takes p2 (kind_members form qs n t) p3 → Puts takes p3 (profile_member form named q) p4 → Puts takes p4 (plain_member form p s) p5
+    → Puts takes p5 (byte_members form m b) p6 → Puts takes p0 (measure_members form q' u' ++ value_members form v' n' s' ++ kind_members form qs' n' t'
+    ++ profile_member form named' q' ++ plain_member form p' s' ++ byte_members form m' b') p6
+pieces_put form {q} {u} {v} {n} {s} {qs} {t} {named} {p} {m} {b} q_is u_is v_is n_is s_is qs_is t_is named_is p_is m_is b_is one two three four five six =
+    rw (← q_is, ← u_is, ← v_is, ← n_is, ← s_is, ← qs_is, ← t_is, ← named_is, ← p_is, ← m_is, ← b_is)
+    (six_make (measure_members form q u ++ value_members form v n s ++ kind_members form qs n t ++ profile_member form named q
+    ++ plain_member form p s ++ byte_members form m b) one two three four five six refl)

@@ -9,8 +9,8 @@ use Rattle.meter_label.specs.Label.{label_of}
 use Rattle.meter_label.specs.Texts.{label_text}
 use Rattle.dif_vif.specs.declared.span.RecordSpan.{RecordSpan}
 use Rattle.dif_vif.specs.declared.fault.RecordFault.{RecordFault}
-use Rattle.dif_vif.specs.Listing.{spans_of}
-use Rattle.dif_vif.specs.Reading.{next_of}
+use Rattle.full_spans.specs.Listing.{full_spans_of}
+use Rattle.full_spans.specs.Walk.{next_full_of}
 use Rattle.record_values.specs.declared.units.Quantity.{Quantity}
 use Rattle.record_values.specs.declared.units.Quantity.TheVariants as profile
 use Rattle.record_values.specs.Units.{unit}
@@ -19,12 +19,13 @@ use Rattle.record_text.specs.Lines.{bytes_at}
 use Rattle.full_records.specs.declared.quantities.FullQuantity.{FullQuantity}
 use Rattle.full_records.specs.declared.quantities.FullQuantity.TheVariants as quantities
 use Rattle.full_records.specs.declared.quantities.FullUnitName.{FullUnitName}
+use Rattle.full_records.specs.declared.makers_own.PlainValue.{PlainValue}
 use Rattle.full_records.specs.declared.qualifiers.Qualifier.{Qualifier}
 use Rattle.full_records.specs.declared.readings.DataType.{DataType}
 use Rattle.full_records.specs.declared.readings.DataType.TheVariants as types
 use Rattle.full_records.specs.declared.values.FullValue.{FullValue}
 use Rattle.full_records.specs.Measures.{measure}
-use Rattle.full_records.specs.Records.{full_data_type, full_qualifiers, full_reading, full_unset, full_value}
+use Rattle.full_records.specs.Records.{full_data_type, full_plain, full_qualifiers, full_reading, full_unset, full_value}
 use Rattle.full_text.specs.declared.reals.Decimal.{Decimal}
 use Rattle.full_text.specs.Decimals.{decimal_text}
 use Rattle.full_text.specs.Said.{counted, qualifiers_text}
@@ -58,6 +59,7 @@ before forms.Json members.Number = codes "\",\"number\":"
 before forms.Json members.Qualifiers = codes ",\"qualifiers\":\""
 before forms.Json members.Type = codes "\",\"type\":\""
 before forms.Json members.ProfileQuantity = codes "\",\"profile_quantity\":\""
+before forms.Json members.AsPlain = codes "\",\"as_plain\":\""
 before forms.Json members.Modifiers = codes "\",\"modifiers\":\""
 before forms.Json members.Raw = codes "\",\"raw\":\""
 before forms.Csv members.Address = []
@@ -81,7 +83,7 @@ closing forms.Csv = codes "\n"
 abbrev pub head_text : Form → List ℕ
 head_text forms.Json = []
 head_text forms.Csv =
-    codes "address,label,receiver,line,moment,counter,record,function,storage,tariff,subunit,quantity,unit,value,number,qualifiers,type,profile_quantity,modifiers,raw\n"
+    codes "address,label,receiver,line,moment,counter,record,function,storage,tariff,subunit,quantity,unit,value,number,qualifiers,type,profile_quantity,as_plain,modifiers,raw\n"
 
 -- ---- the values of members
 
@@ -139,6 +141,14 @@ profile_words form quantity = before form members.ProfileQuantity ++ quantity_te
 abbrev pub profile_member : Form → Quantity → FullQuantity → List ℕ
 profile_member form named quantity = if is_renamed named quantity then profile_words form named else no_member form
 
+-- what the VIF alone makes of data that are the manufacturer's own: the value and its unit
+unfoldable pub plain_words : Form → PlainValue → List ℕ → List ℕ
+plain_words form p sent = before form members.AsPlain ++ full_value_text p.value sent ++ codes " " ++ full_unit_text p.unit
+
+abbrev pub plain_member : Form → Option PlainValue → List ℕ → List ℕ
+plain_member form None sent = no_member form
+plain_member form (Some p) sent = plain_words form p sent
+
 -- the data as they are shown: those that nobody is to see aren't
 abbrev pub shown : DataType → List ℕ → List ℕ
 shown types.Withheld sent = []
@@ -159,7 +169,7 @@ read_members form bytes span =
     let u = unit bytes span in
     measure_members form quantity (full_reading bytes span).unit ++ value_members form (full_value bytes span) (full_unset bytes span) sent
     ++ kind_members form (full_qualifiers bytes span) (full_unset bytes span) (full_data_type bytes span)
-    ++ profile_member form u.quantity quantity
+    ++ profile_member form u.quantity quantity ++ plain_member form (full_plain bytes span) sent
     ++ byte_members form (bytes_at bytes u.modifiers_at u.modifiers) (shown (full_data_type bytes span) sent)
 
 -- the line of a record of a meter's step
@@ -169,7 +179,7 @@ record_line form a s r =
 
 -- a line for each record of a meter's step, up to the first fault
 abbrev pub records_text : Form → Address → StoredStep → List ℕ
-records_text form a s = flat_map (record_line form a s) (enumerate_from 1 (spans_of s.payload))
+records_text form a s = flat_map (record_line form a s) (enumerate_from 1 (full_spans_of s.payload))
 
 -- ---- the fault that ends the records
 
@@ -181,7 +191,7 @@ next_fault rest (Err fault) = Some fault
 -- the first fault from a place on, behind so many records at most
 unfoldable pub fault_from : ℕ → List ℕ → ℕ → Option RecordFault
 fault_from zero payload from = None
-fault_from (suc n) payload from = next_fault (fault_from n payload) (next_of payload from)
+fault_from (suc n) payload from = next_fault (fault_from n payload) (next_full_of payload from)
 
 -- the fault that ends the records of a payload, if one does
 abbrev pub fault_of : List ℕ → Option RecordFault

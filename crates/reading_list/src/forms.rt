@@ -32,6 +32,7 @@ pub enum Member {
     Qualifiers,
     Type,
     ProfileQuantity,
+    AsPlain,
     Modifiers,
     Raw,
 }
@@ -59,6 +60,7 @@ fn before_in_json(member: Member) -> &'static str
         Member::Qualifiers => ",\"qualifiers\":\"",
         Member::Type => "\",\"type\":\"",
         Member::ProfileQuantity => "\",\"profile_quantity\":\"",
+        Member::AsPlain => "\",\"as_plain\":\"",
         Member::Modifiers => "\",\"modifiers\":\"",
         Member::Raw => "\",\"raw\":\"",
     }
@@ -125,7 +127,7 @@ impl Form {
         match self {
             Form::Json => "",
             Form::Csv => {
-                "address,label,receiver,line,moment,counter,record,function,storage,tariff,subunit,quantity,unit,value,number,qualifiers,type,profile_quantity,modifiers,raw\n"
+                "address,label,receiver,line,moment,counter,record,function,storage,tariff,subunit,quantity,unit,value,number,qualifiers,type,profile_quantity,as_plain,modifiers,raw\n"
             }
         }
     }

@@ -43,9 +43,9 @@ REPORT is a file that wmbus hear or wmbus collect printed. Each data record of e
 stored step is printed as a JSON object in a line of its own, or with --csv as comma
 separated values below a line of names: address, label, receiver, line, moment,
 counter, record, function, storage, tariff, subunit, quantity, unit, value, number,
-qualifiers, type, profile_quantity, modifiers and raw. A record is read by the whole
-standard; a value is an exact decimal text, its power of ten applied. What can't be
-listed is named on the standard error, with its line.
+qualifiers, type, profile_quantity, as_plain, modifiers and raw. A record is read by the
+whole standard; a value is an exact decimal text, its power of ten applied. What can't
+be listed is named on the standard error, with its line.
 
 exit status: 0 all is listed, 1 some lines couldn't be listed whole or the report is
 cut off, 2 faulty words, 5 the report can't be read, 7 output not written, 8 the report

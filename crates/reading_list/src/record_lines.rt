@@ -3,17 +3,22 @@ ghost use Rattle.std.specs.Prelude.{◌≡◌};
 ghost use Rattle.paper.specs.Puts.{Puts};
 ghost use Rattle.paper.specs.Pieces.{text_if};
 ghost use Rattle.meter_label.specs.Texts.{label_text};
-ghost use Rattle.dif_vif.specs.Spans.{IsSpanOf};
+ghost use Rattle.full_spans.specs.Long.{IsFullSpan};
 ghost use Rattle.reading_list.specs.Said.{step_read};
 ghost use Rattle.record_values.specs.declared.units.Quantity.TheVariants.{Unknown};
 ghost use Rattle.reading_list.specs.RecordLines.{meter_members, step_members, function_words, register_members, measure_members};
 ghost use Rattle.reading_list.specs.RecordLines.{number_text, value_members, kind_members, is_renamed, profile_words, profile_member};
+ghost use Rattle.reading_list.specs.RecordLines.{plain_words, plain_member};
 ghost use Rattle.reading_list.specs.RecordLines.{shown, byte_members, read_members, record_line, records_text, fault_of};
 
 use crate::forms::{Form, Member};
 use crate::said::StepRead;
-use dif_vif::{RecordFault, RecordSpan, next_record};
-use full_records::{DataType, FullQuantity, FullUnitName, FullValue, Qualifier, full_record_of};
+use dif_vif::{RecordFault, RecordSpan};
+use full_records::{
+    DataType, FullQuantity, FullUnitName, FullValue, PlainValue, Qualifier, full_record_of,
+    full_unit_of,
+};
+use full_spans::next_full_record;
 use full_text::{
     Decimal, counted_of, full_quantity_word, full_unit_word, put_decimal, put_full_value,
     put_qualifiers, type_word,
@@ -22,7 +27,7 @@ use meter_address::Address;
 use meter_label::{Label, put_label};
 use paper::{Paper, put_hex, put_labelled, put_labelled_bytes, put_text};
 use record_text::{bytes_at, function_word, quantity_word};
-use record_values::{Quantity, unit_of};
+use record_values::Quantity;
 
 #[tactic(auto, using(paper::proofs::Calls::none))]
 fn put_label_if<P: Paper>(paper: &mut P, label: Option<Label>)
@@ -162,6 +167,26 @@ fn put_profile<P: Paper>(paper: &mut P, form: Form, profile: Quantity, quantity:
     }
 }
 
+#[tactic(auto, unfolding(crate::specs::RecordLines::plain_words), using(paper::proofs::Calls::four_make))]
+fn put_plain_words<P: Paper>(paper: &mut P, form: Form, plain: PlainValue, sent: &[u8])
+    ensures { Puts P.takes paper.old (plain_words form plain sent.now) paper.new }
+{
+    put_text(paper, form.before(Member::AsPlain));
+    put_full_value(paper, plain.value, sent);
+    put_text(paper, " ");
+    put_text(paper, full_unit_word(plain.unit));
+}
+
+// Puts what the VIF alone makes of data that are the manufacturer's own.
+fn put_plain<P: Paper>(paper: &mut P, form: Form, plain: Option<PlainValue>, sent: &[u8])
+    ensures { Puts P.takes paper.old (plain_member form plain sent.now) paper.new }
+{
+    match plain {
+        None => put_text(paper, form.no_member()),
+        Some(plain) => put_plain_words(paper, form, plain, sent),
+    }
+}
+
 // The data as they are shown.
 fn shown(data_type: DataType, sent: &[u8]) -> &[u8]
     ensures { result.now ≡ shown data_type sent.now }
@@ -185,10 +210,10 @@ fn put_byte_members<P: Paper>(paper: &mut P, form: Form, modifiers: &[u8], sent:
 
 // Puts what a data record says, by the whole standard.
 fn put_read<P: Paper>(paper: &mut P, form: Form, bytes: &[u8], span: &RecordSpan)
-    requires { IsSpanOf bytes.now span.now }
+    requires { IsFullSpan bytes.now span.now }
     ensures { Puts P.takes paper.old (read_members form bytes.now span.now) paper.new }
 {
-    let profile = unit_of(bytes, span);
+    let profile = full_unit_of(bytes, span);
     let record = full_record_of(bytes, span);
     let qualifiers = record.qualifiers.as_slice();
     let modifiers = bytes_at(bytes, profile.modifiers_at, profile.modifiers);
@@ -197,6 +222,7 @@ fn put_read<P: Paper>(paper: &mut P, form: Form, bytes: &[u8], span: &RecordSpan
     put_value(paper, form, record.value, record.unset, sent);
     put_kind(paper, form, qualifiers, record.unset, record.data_type);
     put_profile(paper, form, profile.quantity, record.quantity);
+    put_plain(paper, form, record.plain, sent);
     put_byte_members(paper, form, modifiers, shown(record.data_type, sent));
 }
 
@@ -210,7 +236,7 @@ fn put_record<P: Paper>(
     number: u64,
     span: &RecordSpan,
 )
-    requires { IsSpanOf step.now.payload.items span.now }
+    requires { IsFullSpan step.now.payload.items span.now }
     ensures { Puts P.takes paper.old (record_line form address (step_read step.now) (number, span.now)) paper.new }
 {
     put_meter(paper, form, address);
@@ -233,7 +259,7 @@ pub(crate) fn put_records<P: Paper>(
     let mut listed = 0usize;
     let mut left = step.payload.len();
     'records: while left > 0 {
-        match next_record(step.payload.as_slice(), from) {
+        match next_full_record(step.payload.as_slice(), from) {
             Err(fault) => return Some(fault),
             Ok(None) => return None,
             Ok(Some(span)) => {

@@ -10,7 +10,7 @@ use native.Mathlib.Decide.{ℕ_discrete}
 use Rattle.meter_address.specs.declared.address.Address.{Address}
 use Rattle.meter_slots.specs.declared.entry.Event.{Event}
 use Rattle.meter_slots.specs.declared.entry.Outcome.{Outcome}
-use Rattle.meter_slots.specs.Directory.{AreApart}
+use Rattle.meter_address.specs.Address.{AreApart}
 use Rattle.meter_slots.specs.Journal.{Start, SlotView}
 use Rattle.book_cells.specs.Acts.{Shown, CellShown, IsPassOf, IsFirstPass, acts_by, made_by, mine}
 use Rattle.meter_slots.specs.Acting.{Opening, opening_of, act_of, IsLegalJournal}

@@ -11,7 +11,7 @@ use Rattle.meter_address.specs.declared.address.Address.{Address}
 use Rattle.meter_slots.specs.declared.entry.Entry.{Entry}
 use Rattle.meter_slots.specs.declared.entry.Event.{Event}
 use Rattle.meter_slots.specs.declared.entry.Outcome.{Outcome}
-use Rattle.meter_slots.specs.Directory.{AreApart}
+use Rattle.meter_address.specs.Address.{AreApart}
 use Rattle.meter_slots.specs.Journal.{Start, SlotView, Legal}
 use Rattle.stranger_ring.specs.declared.strangers.Heard.{Heard}
 use Rattle.book_cells.specs.declared.act.Act.{Act}
@@ -19,7 +19,7 @@ use Rattle.book_cells.specs.Acts.{acts_by}
 use Rattle.meter_slots.specs.Acting.{Opening, opening_of, act_of, entry_of, IsLegalJournal}
 use Rattle.stranger_ring.specs.Ring.{note_of}
 use Rattle.meter_slots.proofs.Entries.{entries_back}
-use Rattle.meter_slots.proofs.Places.{none_at}
+use Rattle.meter_directory.proofs.Places.{none_at}
 use Rattle.meter_slots.proofs.Worlds.{any-map}
 use Rattle.receivers.proofs.Picked.{filter-map, cons_map}
 use Rattle.receivers.specs.declared.told.Told.{Told}

@@ -3,7 +3,8 @@ use crate::class::Class;
 use crate::receiver::Receiver;
 use crate::slots::{Heard, Slots, silent};
 use meter_address::Address;
-use meter_slots::{Ended, Event, Landed, Step, World};
+use meter_slots::{Ended, Event, Landed, Step};
+use meter_worlds::World;
 use outer_io::{Memory, Sink, Source};
 
 /// A world in which one receiver makes all steps.

@@ -1,6 +1,6 @@
 //! A session of several receivers over the slots of some commissions.
 ghost use Rattle.std.specs.Prelude.{◌≡◌, ◌<◌, ◌^◌, None, [], map, length, All, IfOk, OnOk, vec_len};
-ghost use Rattle.meter_slots.specs.Directory.{AreApart};
+ghost use Rattle.meter_address.specs.Address.{AreApart};
 ghost use Rattle.book_cells.specs.Acts.{IsPassOf, IsFirstPass};
 ghost use Rattle.receivers.specs.Run.{receiver_runs};
 ghost use Rattle.receivers.specs.Collected.{address_of, AreFresh, IsCollected};
@@ -11,7 +11,8 @@ use crate::roots::close_each;
 use crate::running::run_cells;
 use book_cells::{Book, BookCell, Pass};
 use meter_address::Address;
-use meter_slots::{Directory, MeterStart, SlotBook, addresses_of};
+use meter_directory::Directory;
+use meter_slots::{MeterStart, SlotBook, addresses_of};
 use outer_io::{Memory, Sink, Source};
 use std::alloc::Global;
 use std::snapshot::Snapshot;

@@ -11,5 +11,7 @@ pub mod MembersPut
 pub mod ListedEnds
 pub mod ShownTrees
 pub mod ShownReadings
+pub mod TreesMade
+pub mod NoFloats
 pub mod SameListing
 pub mod PartedReports

@@ -5,9 +5,11 @@ mod entries;
 mod laws;
 mod lent;
 mod listing;
+mod meter_trees;
 mod outcomes;
 mod parts;
 mod readings;
+mod record_trees;
 mod writing;
 
 pub use entries::{put_comma, put_digits, put_entries, put_fault};

@@ -8,16 +8,18 @@ ghost use Rattle.serde_json.specs.Read.{read};
 ghost use Rattle.serde_json.specs.View.{items_of};
 ghost use Rattle.serde_json.specs.Written.{compact_text, items_text};
 ghost use Rattle.paper.specs.Puts.{Puts};
-ghost use Rattle.report_text.specs.Readings.{or_null, mode_number, payload_of, members, meter_members, meter_tree};
+ghost use Rattle.report_text.specs.Readings.{or_null, mode_number, members, meter_members, meter_tree};
 ghost use Rattle.report_text.specs.Readings.{readings_tree, readings_text, IsNumbered, LastIsNumbered};
 
 use crate::entries::{put_comma, put_digits, put_entries, put_fault};
 use crate::lent::Session;
 use crate::listing::ending_of;
+use crate::meter_trees::{payload_of, slot_text};
 use meter_address::{Address, Mode};
 use meter_slots::{Reading, SlotBook};
 use outer_io::{Failed, Sink};
 use paper::{Paper, Printed, put_number, put_text, write};
+use std::alloc::Global;
 
 fn put_mode<P: Paper>(paper: &mut P, mode: Mode)
     ensures { Puts P.takes paper.old (compact_text (number (unsigned (mode_number mode)))) paper.new }
@@ -45,15 +47,6 @@ fn put_counter<P: Paper>(paper: &mut P, reading: Option<&Reading>)
     match reading {
         None => put_text(paper, "null"),
         Some(reading) => put_number(paper, reading.counter as u64),
-    }
-}
-
-fn payload_of(reading: Option<&Reading>) -> &[u8]
-    ensures { result.now ≡ payload_of (option_copied reading.entry) }
-{
-    match reading {
-        None => &[],
-        Some(reading) => reading.payload.bytes(),
     }
 }
 
@@ -96,6 +89,7 @@ fn put_meter<P: Paper>(
     put_text(paper, "}");
 }
 
+// Puts a meter piece by piece, which takes no memory.
 fn put_slot<P: Paper>(paper: &mut P, slot: &SlotBook)
     ensures { Puts P.takes paper.old (compact_text (meter_tree slot.now)) paper.new }
 {
@@ -104,31 +98,42 @@ fn put_slot<P: Paper>(paper: &mut P, slot: &SlotBook)
     put_meter(paper, now.address, now.mode, last, payload_of(last));
 }
 
-// The meters, and the closing bracket.
-fn put_items<P: Paper>(paper: &mut P, slots: &[SlotBook])
+// Puts a meter as `serde_json` prints its object, or piece by piece where there is no memory for that. The text is the same.
+fn put_item<P: Paper>(paper: &mut P, alloc: Global, slot: &SlotBook)
+    ensures { Puts P.takes paper.old (compact_text (meter_tree slot.now)) paper.new }
+{
+    match slot_text(alloc, slot) {
+        Ok(text) => put_text(paper, text.as_str()),
+        Err(_) => put_slot(paper, slot),
+    }
+}
+
+// The meters, one after another, and the closing bracket.
+fn put_items<P: Paper>(paper: &mut P, alloc: Global, slots: &[SlotBook])
     ensures { Puts P.takes paper.old (items_text false (items_of (map meter_tree slots.now))) paper.new }
 {
     let mut later = false;
     for slot in slots {
         put_comma(paper, later);
-        put_slot(paper, slot);
+        put_item(paper, alloc, slot);
         later = true;
     }
     put_text(paper, "]");
 }
 
 #[tactic(auto, unfolding(json::specs::Print::escape_byte), using(paper::proofs::Calls::three_make))]
-fn put_tree<P: Paper>(paper: &mut P, slots: &[SlotBook])
+fn put_tree<P: Paper>(paper: &mut P, alloc: Global, slots: &[SlotBook])
     ensures { Puts P.takes paper.old (compact_text (readings_tree slots.now)) paper.new }
 {
     put_text(paper, "{\"meters\":[");
-    put_items(paper, slots);
+    put_items(paper, alloc, slots);
     put_text(paper, "}");
 }
 
-// The slots whose last readings are told.
+// The slots whose last readings are told, and where memory comes from.
 #[derive(Drop)]
 struct LastReadings<'a> {
+    alloc: Global,
     slots: &'a [SlotBook],
 }
 
@@ -139,7 +144,7 @@ impl Printed for LastReadings<'_> {
 
     #[tactic(auto, unfolding(crate::specs::Readings::readings_text), using(paper::proofs::Calls::two_make))]
     fn print<P: Paper>(&self, paper: &mut P) {
-        put_tree(paper, self.slots);
+        put_tree(paper, self.alloc, self.slots);
         put_text(paper, "\n");
     }
 }
@@ -175,9 +180,14 @@ fn show_slots(slots: &[SlotBook])
     }
 }
 
-/// Writes the last reading of each meter as JSON, in the order of the roster: a compact text and a newline, in large pieces and without
-/// memory. A reader of JSON gets the tree back that the text is made of. On `Failed` some first bytes of it were written.
-pub fn readings_json<K: Sink>(session: &Session<'_>, sink: &mut K) -> Result<(), Failed>
+/// Writes the last reading of each meter as JSON, in the order of the roster: a compact text and a newline, in large pieces. The object of
+/// a meter is made and printed by `serde_json`, and let go before the next; where there is no memory for it, it is put piece by piece. A
+/// reader of JSON gets the tree back that the text is made of. On `Failed` some first bytes of it were written.
+pub fn readings_json<K: Sink>(
+    alloc: Global,
+    session: &Session<'_>,
+    sink: &mut K,
+) -> Result<(), Failed>
     ensures ok { let text = readings_text session.now.slots.now in
         OnOk result (IsTrue K.tells → K.written sink.new ≡ K.written sink.old ++ text) }
     ensures err { let text = readings_text session.now.slots.now in
@@ -188,5 +198,5 @@ pub fn readings_json<K: Sink>(session: &Session<'_>, sink: &mut K) -> Result<(),
 {
     let slots = session.slots;
     show_slots(slots);
-    write(sink, &LastReadings { slots })
+    write(sink, &LastReadings { alloc, slots })
 }

@@ -2,6 +2,5 @@ pub mod Enrolling
 pub mod LinePieces
 pub mod ReadBack
 pub mod RosterLines
-pub mod Words
 pub mod Gives
 pub mod Apart

@@ -8,13 +8,12 @@ use Rattle.std.specs.Str.Lines.{lines}
 use Rattle.std.proofs.lemmas.Bool.{and_parts, and_right, cond-false, le-ltb}
 use Rattle.std.proofs.lemmas.Bool.Decides.{nat_tests}
 use Rattle.std.proofs.lemmas.List.{append-nil}
-use Rattle.std.proofs.lemmas.Fmt.{decimal_injective, length-decimal-le}
+use Rattle.std.proofs.lemmas.Fmt.{length-decimal-le}
 use Rattle.hex.specs.Hex.{encode_lower, encode_with, lower_digits}
 use Rattle.hex.proofs.HexLemmas.{length-encode_with}
 use Rattle.lists.specs.Each.{Each}
-use Rattle.plain_text.specs.Numbers.{is_plain, number_of}
+use Rattle.plain_text.specs.Numbers.{number_of}
 use Rattle.plain_text.specs.Parts.{is_word}
-use Rattle.plain_text.proofs.Plain.{written}
 use Rattle.meter_address.specs.declared.address.Address.{Address}
 use Rattle.meter_address.specs.declared.commission.Mode.{Mode}
 use Rattle.meter_address.specs.declared.commission.Mode.TheVariants.{Five, Seven}
@@ -30,21 +29,11 @@ use Rattle.roster_file.specs.Text.{mode_text, other_text, last_text, meter_field
 use Rattle.roster_file.specs.Enrolled.{IsEnrolled}
 use Rattle.roster_file.proofs.Apart.{new_behind, room_before}
 use Rattle.roster_file.proofs.RosterLines.{counted, meters_by, meters_end, none_left}
-use Rattle.roster_file.proofs.Words.{IsAbove, IsWord, IsPrinted, number_above, hex_word, fields_joined, joined_printed, ended_line}
+use Rattle.written_words.specs.Words.{IsAbove, IsWord, IsPrinted}
+use Rattle.written_words.proofs.Words.{number_above, hex_word, fields_joined, joined_printed, ended_line}
+use Rattle.written_words.proofs.Numbers.{number_back}
 
 -- ---- a field
-
-pub number_back : (most n : ℕ) → most < 2 ^ 64 → n ≤ most → number_of most (decimal n) ≡ Some n
-unfolding number_of
-number_back most n small within = by_answer (number_of most (decimal n)) refl
-  where
-    by_answer : (r : Option ℕ) → r ≡ number_of most (decimal n) → number_of most (decimal n) ≡ Some n
-    by_answer None is = absurd (written most (decimal n) small (is_plain (decimal n)) refl None is n within refl)
-    by_answer (Some m) is =
-        let read = written most (decimal n) small (is_plain (decimal n)) refl (Some m) is in
-        let low = read.0 in
-        let same : m ≡ n = sym (decimal_injective n m (omega arith) (omega arith) read.1) in
-        sym is ∙ ap Some same
 
 mode_back : (mode : Mode) → mode_of (mode_text mode) ≡ Some mode
 mode_back Five = refl

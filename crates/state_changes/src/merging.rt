@@ -7,7 +7,8 @@ ghost use Rattle.state_changes.specs.Printing.{at_place, merged_block};
 
 use crate::commission::merged_commission;
 use meter_address::{Address, Commission};
-use meter_slots::{Directory, MeterStart, addresses_of};
+use meter_directory::Directory;
+use meter_slots::{MeterStart, addresses_of};
 use outer_io::Memory;
 use paper::{Paper, Printed, put_text};
 use roster_file::{Roster, put_meter, put_own};

@@ -23,8 +23,9 @@ use Rattle.afl_fragments.proofs.Shortening.{cut_holds, held_goes_on}
 use Rattle.command_queue.specs.declared.command.Command.{Command}
 use Rattle.meter_slots.specs.declared.reading.Reading.{Reading}
 use Rattle.meter_slots.specs.Journal.{Start}
-use Rattle.roster_file.proofs.Words.{IsWord, hex_word, number_above, fields_joined}
-use Rattle.roster_file.proofs.ReadBack.{number_back}
+use Rattle.written_words.specs.Words.{IsWord}
+use Rattle.written_words.proofs.Words.{hex_word, number_above, fields_joined}
+use Rattle.written_words.proofs.Numbers.{number_back}
 use Rattle.state_file.specs.declared.cause.StateCause.TheVariants as causes
 use Rattle.state_file.specs.State.{bytes_in, payload_in, reading_of, with_reading_in, fragment_with, fragment_of, fragment_in, part_of, with_part}
 use Rattle.state_file.specs.State.{command_bytes, command_of, with_command, with_fields, with_line, with_lines}

@@ -26,7 +26,8 @@ use Rattle.roster_file.specs.Text.{own_text, meter_text}
 use Rattle.roster_file.proofs.RosterLines.{counted, none_left}
 use Rattle.roster_file.proofs.ReadBack.{meter_back, meter_counts, meter_line, meter_word, meter_words, behind_meter, own_line, own_word, own_words, own_back, own_counts}
 use Rattle.roster_file.proofs.Apart.{new_behind, room_before}
-use Rattle.roster_file.proofs.Words.{IsWord, IsPrinted, fields_joined, joined_printed, ended_line}
+use Rattle.written_words.specs.Words.{IsWord, IsPrinted}
+use Rattle.written_words.proofs.Words.{fields_joined, joined_printed, ended_line}
 use Rattle.state_file.specs.declared.fault.StateFault.{StateFault}
 use Rattle.state_file.specs.Rooms.{HasRoom}
 use Rattle.state_file.specs.State.{with_line, with_lines}

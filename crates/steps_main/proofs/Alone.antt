@@ -10,7 +10,7 @@ use Rattle.meter_slots.specs.declared.reading.Reading.{Reading}
 use Rattle.meter_slots.specs.declared.step.Step.{Step}
 use Rattle.meter_slots.specs.Journal.{Start, SlotView, IsJudged, Legal, commission_of, standing, outcome, stored, reading_of, readings, readings_back}
 use Rattle.meter_slots.specs.Laws.{call_in}
-use Rattle.meter_slots.specs.PassingWorld.{has_steps}
+use Rattle.meter_worlds.specs.PassingWorld.{has_steps}
 use Rattle.meter_slots.specs.Resuming.{known_now, resumed}
 use Rattle.meter_slots.specs.World.{Call, call_of, calls_of, fresh_slot, is_for, journal_of}
 use Rattle.meter_slots.proofs.Cuts.{legal_through, readings_of_all}

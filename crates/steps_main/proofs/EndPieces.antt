@@ -5,8 +5,8 @@ use Rattle.std.proofs.lemmas.List.Folds.{flat_map-map}
 use Rattle.paper.specs.Puts.{Puts}
 use Rattle.paper.proofs.Calls.{four_make}
 use Rattle.meter_address.specs.declared.address.Address.{Address}
-use Rattle.meter_slots.specs.declared.passing_world.PassingMeter.{PassingMeter}
-use Rattle.meter_slots.specs.PassingWorld.{known_by}
+use Rattle.meter_worlds.specs.declared.passing_world.PassingMeter.{PassingMeter}
+use Rattle.meter_worlds.specs.PassingWorld.{known_by}
 use Rattle.roster_file.specs.Text.{own_text}
 use Rattle.state_file.specs.Written.{block_text, state_text}
 use Rattle.steps_main.specs.Ending.{known_of, meter_block}

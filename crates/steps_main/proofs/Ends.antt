@@ -6,9 +6,9 @@ use Rattle.std.proofs.lemmas.Simd.{map-map}
 use Rattle.meter_address.specs.declared.address.Address.{Address}
 use Rattle.meter_address.specs.Address.{AreApart}
 use Rattle.meter_slots.specs.declared.counts.Counts.{Counts}
-use Rattle.meter_slots.specs.declared.passing_world.PassingMeter.{PassingMeter}
+use Rattle.meter_worlds.specs.declared.passing_world.PassingMeter.{PassingMeter}
 use Rattle.meter_slots.specs.Journal.{Start, SlotView}
-use Rattle.meter_slots.specs.PassingWorld.{ArePassing, IsPassing, has_steps, known_by, PassingIsKnown}
+use Rattle.meter_worlds.specs.PassingWorld.{ArePassing, IsPassing, has_steps, known_by, PassingIsKnown}
 use Rattle.meter_slots.specs.Resuming.{known_now}
 use Rattle.meter_slots.specs.World.{slot_of, world_of}
 use Rattle.lists.proofs.Members.{with_fold}

@@ -6,10 +6,10 @@ use Rattle.line_teller.specs.Telling.{Tells}
 use Rattle.line_teller.proofs.Keeping.{told_by}
 use Rattle.meter_address.specs.declared.address.Address.{Address}
 use Rattle.meter_slots.specs.declared.entry.Event.{Event}
-use Rattle.meter_slots.specs.declared.passing_world.PassingMeter.{PassingMeter}
+use Rattle.meter_worlds.specs.declared.passing_world.PassingMeter.{PassingMeter}
 use Rattle.meter_slots.specs.declared.standing.Served.{Served}
 use Rattle.meter_slots.specs.Journal.{SlotView}
-use Rattle.meter_slots.specs.PassingWorld.{ArePassing, IsServed, keeping, step_for}
+use Rattle.meter_worlds.specs.PassingWorld.{ArePassing, IsServed, keeping, step_for}
 use Rattle.meter_slots.specs.World.{slot_after}
 use Rattle.paper.specs.InMemory.{Kept, Keeps}
 use Rattle.paper.specs.Puts.{Puts}

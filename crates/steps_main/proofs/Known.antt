@@ -1,9 +1,9 @@
 -- What is put or shown of a meter at a place, by what the calls answer.
 use Rattle.std.proofs.Common.{◌≡◌, ℕ, Bool, cond, List, [], Option, Some, None, subst}
 use Rattle.std.specs.Prelude.{IfSome, option_map}
-use Rattle.meter_slots.specs.declared.passing_world.PassingMeter.{PassingMeter}
+use Rattle.meter_worlds.specs.declared.passing_world.PassingMeter.{PassingMeter}
 use Rattle.meter_slots.specs.Journal.{Start}
-use Rattle.meter_slots.specs.PassingWorld.{had_step, known_by}
+use Rattle.meter_worlds.specs.PassingWorld.{had_step, known_by}
 use Rattle.paper.specs.Pieces.{text_if}
 use Rattle.paper.specs.Puts.{Puts}
 use Rattle.state_file.specs.Written.{IsStart}

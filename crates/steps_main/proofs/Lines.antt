@@ -5,10 +5,10 @@ use Rattle.line_teller.specs.Telling.{AreTold}
 use Rattle.meter_address.specs.declared.address.Address.{Address}
 use Rattle.meter_address.specs.Address.{AreApart}
 use Rattle.meter_slots.specs.declared.entry.Event.{Event}
-use Rattle.meter_slots.specs.declared.passing_world.PassingMeter.{PassingMeter}
+use Rattle.meter_worlds.specs.declared.passing_world.PassingMeter.{PassingMeter}
 use Rattle.meter_slots.specs.declared.step.Step.{Step}
 use Rattle.meter_slots.specs.Journal.{Start, SlotView}
-use Rattle.meter_slots.specs.PassingWorld.{ArePassing, step_for}
+use Rattle.meter_worlds.specs.PassingWorld.{ArePassing, step_for}
 use Rattle.meter_slots.specs.World.{WorldView, slot_after, slot_of, world_of}
 use Rattle.meter_slots.proofs.Worlds.{after_push}
 use Rattle.receivers.specs.Alone.{steps_among, steps_of}

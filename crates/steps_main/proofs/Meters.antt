@@ -15,7 +15,7 @@ use Rattle.meter_slots.specs.declared.reading.Reading.{Reading}
 use Rattle.meter_slots.specs.declared.standing.Served.{Served}
 use Rattle.meter_slots.specs.declared.step.Step.{Step}
 use Rattle.meter_slots.specs.Journal.{Start, SlotView, commission_of, standing, stored, reading_of, readings, readings_back}
-use Rattle.meter_slots.specs.PassingWorld.{IsServed, step_for}
+use Rattle.meter_worlds.specs.PassingWorld.{IsServed, step_for}
 use Rattle.meter_slots.specs.World.{has_slot, outcome_at, slot_of, stepped_slot}
 use Rattle.receivers.specs.Alone.{steps_of}
 use Rattle.receivers.specs.Classes.{class_by}

@@ -11,7 +11,7 @@ use Rattle.line_teller.specs.declared.ending.LinesEnd.TheVariants as ends
 use Rattle.line_teller.specs.Ending.{Ended, EndsLines, EndsText, is_whole}
 use Rattle.meter_address.specs.declared.address.Address.{Address}
 use Rattle.meter_slots.specs.Journal.{Start}
-use Rattle.meter_slots.proofs.PassingWorlds.{passing_is_known}
+use Rattle.meter_worlds.proofs.PassingWorlds.{passing_is_known}
 use Rattle.receivers.specs.Alone.{steps_among}
 use Rattle.receivers.proofs.Numbers.{counted_none, rose_since}
 use Rattle.receivers.proofs.OneSession.{session_alone}

@@ -4,8 +4,8 @@ use Rattle.std.specs.List.{flat_map}
 use Rattle.line_teller.specs.declared.ending.LinesEnd.{LinesEnd}
 use Rattle.line_teller.specs.Ending.{is_whole}
 use Rattle.meter_address.specs.declared.address.Address.{Address}
-use Rattle.meter_slots.specs.declared.passing_world.PassingMeter.{PassingMeter}
-use Rattle.meter_slots.specs.PassingWorld.{known_by}
+use Rattle.meter_worlds.specs.declared.passing_world.PassingMeter.{PassingMeter}
+use Rattle.meter_worlds.specs.PassingWorld.{known_by}
 use Rattle.outer_io.specs.declared.failures.Failed.{Failed}
 use Rattle.outer_io.specs.Shown.{Change, SinkShown, WriteFailed}
 use Rattle.state_file.specs.Whole.{Known}

@@ -7,7 +7,7 @@ use Rattle.meter_slots.specs.declared.entry.Event.{Event}
 use Rattle.meter_slots.specs.declared.reading.Reading.{Reading}
 use Rattle.meter_slots.specs.declared.standing.Served.{Served}
 use Rattle.meter_slots.specs.Journal.{Start, SlotView, commission_of, standing, outcome, stored, reading_of}
-use Rattle.meter_slots.specs.PassingWorld.{has_steps}
+use Rattle.meter_worlds.specs.PassingWorld.{has_steps}
 use Rattle.meter_slots.specs.Resuming.{known_now}
 use Rattle.meter_slots.specs.World.{WorldView, slot_of, world_of}
 use Rattle.receivers.specs.Alone.{steps_of}

@@ -4,10 +4,10 @@ use Rattle.paper.specs.InMemory.{Kept, Keeps}
 use Rattle.paper.specs.Puts.{Puts}
 use Rattle.meter_address.specs.declared.address.Address.{Address}
 use Rattle.meter_slots.specs.declared.entry.Event.{Event}
-use Rattle.meter_slots.specs.declared.passing_world.PassingMeter.{PassingMeter}
+use Rattle.meter_worlds.specs.declared.passing_world.PassingMeter.{PassingMeter}
 use Rattle.meter_slots.specs.declared.standing.Served.{Served}
 use Rattle.meter_slots.specs.Journal.{Start, SlotView}
-use Rattle.meter_slots.specs.PassingWorld.{ArePassing, IsServed, step_for}
+use Rattle.meter_worlds.specs.PassingWorld.{ArePassing, IsServed, step_for}
 use Rattle.meter_slots.specs.World.{fresh_slot, slot_after}
 use Rattle.receivers.specs.declared.class.Class.{Class}
 use Rattle.receivers.specs.declared.class.Class.TheVariants as classes

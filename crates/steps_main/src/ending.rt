@@ -9,7 +9,8 @@ ghost use Rattle.steps_main.specs.Statuses.{ended_at};
 
 use crate::telling::Stepper;
 use line_teller::LinesEnd;
-use meter_slots::{Ended, PassingWorld};
+use meter_slots::Ended;
+use meter_worlds::PassingWorld;
 use outer_io::{Failed, Sink};
 use paper::{Paper, Printed, write};
 use step_text::{put_block_line, put_counts_line};

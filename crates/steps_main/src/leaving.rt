@@ -10,7 +10,7 @@ ghost use Rattle.state_file.specs.Written.{state_text};
 ghost use Rattle.steps_main.specs.Ending.{known_of, meter_block, IsTellable, Wrote};
 
 use meter_address::Address;
-use meter_slots::PassingWorld;
+use meter_worlds::PassingWorld;
 use outer_io::{Failed, Sink};
 use paper::{Paper, Printed, put_text, write};
 use roster_file::put_own;

@@ -6,7 +6,8 @@ use crate::counting::{counted, no_counts};
 use line_reader::BadLine;
 use line_teller::{Sheet, Teller};
 use meter_address::Address;
-use meter_slots::{Event, MeterStart, PassingWorld};
+use meter_slots::{Event, MeterStart};
+use meter_worlds::PassingWorld;
 use outer_io::Memory;
 use receivers::{Class, Counts};
 use std::alloc::Global;
@@ -75,7 +76,7 @@ pub(crate) struct Stepper {
 
 impl Stepper {
     ghost use Rattle.std.specs.Prelude.{◌<◌, ◌^◌, length, map, IfOk};
-    ghost use Rattle.meter_slots.specs.Directory.{AreApart};
+    ghost use Rattle.meter_address.specs.Address.{AreApart};
     ghost use Rattle.steps_main.specs.Telling.{IsFresh};
 
     /// No line yet, of the meters of which this is known. Their addresses differ.

@@ -1,5 +1,6 @@
 -- The ring of strangers, and their lines as acts.
-use Rattle.std.specs.Prelude.{◌-◌, List, length, drop, map}
+use Rattle.std.specs.Prelude.{◌-◌, List, [], length, drop, map, Option, Some, None}
+use Rattle.circular_buffer.specs.Buffer.{Buffer}
 use Rattle.meter_address.specs.declared.address.Address.{Address}
 use Rattle.book_cells.specs.declared.act.Act.{Act}
 use Rattle.book_cells.specs.Acts.{act}
@@ -12,6 +13,11 @@ last_heard heard = drop (length heard - 256) heard
 -- their addresses
 unfoldable pub ring_of : List Heard → List Address
 ring_of heard = map (λ h. h.address) (last_heard heard)
+
+-- the addresses in a buffer, which isn't made before the first one comes
+abbrev pub kept_in : Option (Buffer Address) → List Address
+kept_in None = []
+kept_in (Some buffer) = buffer.items
 
 -- a stranger's line as an act
 abbrev pub note_of : Heard → Act Address Unit

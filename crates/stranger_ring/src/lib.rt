@@ -2,6 +2,8 @@
 #![tactic(auto)]
 
 mod acting;
+mod ring;
 mod strangers;
 
-pub use strangers::{Heard, RING_MAX, Strangers};
+pub use ring::RING_MAX;
+pub use strangers::{Heard, Strangers};

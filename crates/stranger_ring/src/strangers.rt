@@ -1,11 +1,9 @@
 //! The book of strangers.
+use crate::ring::Ring;
 use meter_address::Address;
 use outer_io::Memory;
 use std::alloc::Global;
 use std::marker::Model;
-
-/// How many of the last strangers the ring has.
-pub const RING_MAX: usize = 256;
 
 /// A line of a stranger: its receiver, its number there, and the address.
 #[derive(Clone, Copy)]
@@ -18,24 +16,28 @@ pub struct Heard {
     pub address: Address,
 }
 
-/// All lines of strangers in the order in which they came. The ring is the addresses of their end.
+/// All lines of strangers in the order in which they came, and a ring of the last 256 addresses.
 #[derive(Drop)]
 pub struct Strangers {
     heard: Vec<Heard>,
+    ring: Ring,
 }
 
 impl Model for Strangers {
-    ghost use Rattle.std.specs.Prelude.{List};
+    ghost use Rattle.std.specs.Prelude.{◌≡◌, List};
     ghost use Rattle.stranger_ring.specs.declared.strangers.Heard.{Heard};
+    ghost use Rattle.stranger_ring.specs.Ring.{ring_of};
 
     ghost Value = { List Heard };
 
     ghost view = { λ s. s.heard.items };
+
+    ghost invariant = { λ s. s.ring ≡ ring_of s.heard.items };
 }
 
 impl Strangers {
-    ghost use Rattle.std.specs.Prelude.{◌≡◌, ◌≤◌, [], ◌∷◌, ◌++◌, length, slice_get, option_copied, OnOk, OnErr};
-    ghost use Rattle.stranger_ring.specs.Ring.{last_heard, ring_of};
+    ghost use Rattle.std.specs.Prelude.{◌≡◌, ◌≤◌, [], ◌∷◌, ◌++◌, length, slice_get, OnOk, OnErr};
+    ghost use Rattle.stranger_ring.specs.Ring.{ring_of};
 
     /// No stranger yet.
     pub fn new(alloc: Global) -> Strangers
@@ -43,6 +45,7 @@ impl Strangers {
     {
         Strangers {
             heard: Vec::new(alloc),
+            ring: Ring::new(alloc),
         }
     }
 
@@ -52,6 +55,7 @@ impl Strangers {
         ensures err { OnErr result (self.new ≡ self.old) }
     {
         self.heard.reserve(1)?;
+        self.ring.push(address)?;
         self.heard.push_reserved(Heard {
             source,
             line,
@@ -67,28 +71,18 @@ impl Strangers {
         self.heard.as_slice()
     }
 
-    // The line whose address stands at a place of the ring.
-    fn last_heard_at(&self, place: usize) -> Option<&Heard>
-        ensures { option_copied result ≡ slice_get (last_heard self.now) place }
-    {
-        let first = self.heard.len().saturating_sub(RING_MAX);
-        self.heard[first..].get(place)
-    }
-
     /// How many addresses the ring has: all, or 256 where there are more.
-    #[tactic(auto, using(crate::proofs::Rings::ring_length))]
     pub fn ring_len(&self) -> usize
         ensures count { result ≡ length (ring_of self.now) }
         ensures few { result ≤ 256 }
     {
-        self.heard.len().min(RING_MAX)
+        self.ring.len()
     }
 
     /// The address at a place of the ring, the oldest one first: none exactly where there is no such place.
     pub fn ring_at(&self, place: usize) -> Option<Address>
         ensures { result ≡ slice_get (ring_of self.now) place }
     {
-        let heard = self.last_heard_at(place)?;
-        Some(heard.address)
+        self.ring.get(place)
     }
 }

@@ -14,12 +14,15 @@ from wmbus_service.steps import state_text
 def meter_faults(database: Database, wmbus: str, meter: Meter, folder: Path) -> list[str]:
     """Where what is committed of a meter isn't what the uncut session over its own lines says."""
     lines = database.execute("select number, text from line where address = %s order by number", (meter.name,)).fetchall()
-    uncut = Uncut(wmbus, roster_of([meter]), [text for _, text in lines], folder)
+    # (a second key isn't kept in its line; each meter gets one alone)
+    key = f" {meter.other.hex()}" if meter.other else ""
+    uncut = Uncut(wmbus, roster_of([meter]), [text + key if text.startswith("K ") else text for _, text in lines], folder)
     numbers = [number for number, _ in lines]
     wanted_readings = [(numbers[line - 1], counter, moment, payload) for line, _, counter, moment, payload in uncut.readings()]
     readings = database.execute("select line, counter, moment, payload from reading where address = %s order by line",
                                 (meter.name,)).fetchall()
-    commands = database.execute("select number, case when state = 'queued' and tries > 0 then 'sent' else state end from command"
+    commands = database.execute("select number, case when state = 'queued' and tries > 0 then 'sent' when state = 'unsure' then 'confirmed'"
+                                " else state end from command"
                                 " where number is not null and address = %s", (meter.name,)).fetchall()
     refusals: Counter[str] = Counter()
     for reason, times in database.execute("select reason, times from refusal where address = %s", (meter.name,)):

@@ -11,7 +11,7 @@ from typing import Any
 
 from tests.killed_service import Dying
 from tests.stand_in import stand_in
-from wmbus_fleet import broker, downlinks, gateway, intake, sessions, store, writing
+from wmbus_fleet import asking, broker, downlinks, gateway, intake, sessions, store, writing
 from wmbus_fleet.config import Config, Gateway
 from wmbus_fleet.messages import Down, down_body
 from wmbus_service import spool
@@ -24,7 +24,7 @@ PLACES: dict[str, list[tuple[Any, str]]] = {
     "gateway": [(spool, "sync"), (gateway.Agent, "_make"), (gateway, "put_places"), (gateway_store, "commit"), (broker, "publish"),
                 (gateway, "mark_acknowledged"), (gateway, "write_downlink"), (gateway, "arm"), (gateway.Agent, "send_again")],
     "intake": [(intake, "accept"), (intake, "put_lines"), (intake, "put_fences"), (store, "commit"), (intake, "acknowledge"),
-               (intake, "ask")],
+               (asking, "ask")],
     "sessions": [(sessions, "take"), (sessions, "run_steps"), (sessions, "write"), (store, "commit")],
     "downlinks": [(broker, "publish"), (downlinks, "mark_sent")],
 }
@@ -94,9 +94,9 @@ def marked_first(_config: Config) -> None:
 
     send = downlinks.send
 
-    def sending(config: Config, database: store.Database, channel: Any, now: float) -> int:
+    def sending(config: Config, database: store.Database, *words: Any) -> int:
         waiting[:] = [database]
-        return send(config, database, channel, now)
+        return send(config, database, *words)
 
     def first(channel: Any, name: str, downlink: Down) -> str | None:
         (ident,) = store._row(waiting[0].execute("select id from outbox where address = %s and down = %s",

@@ -126,7 +126,7 @@ class InFlight(SetBack):
                 self.copied = self._copied()
             sent = [ident for ident, (state, *_) in self.copied.items() if state == "sent"]
             self.ask(3)
-            self._goes_on("select count(*) > 0 from command where state = 'confirmed' and id = any(%s)", [sent])
+            self._goes_on("select count(*) > 0 from command where state in ('confirmed', 'unsure') and id = any(%s)", [sent])
             self.end_all()
             self._set_back()
             self.open_then = self.commands_now()

@@ -15,9 +15,9 @@ from multiprocessing.sharedctypes import RawValue
 from pathlib import Path
 from typing import IO, Any
 
-import messages
+from telegrams import messages
 import pika
-from frames import format_a
+from telegrams.frames import format_a
 from tests.meters import payload_of
 from wmbus_fleet import broker
 from wmbus_fleet.config import Broker

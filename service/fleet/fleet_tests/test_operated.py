@@ -13,7 +13,7 @@ from pathlib import Path
 from typing import Any
 
 import pytest
-from messages import whole
+from telegrams.messages import whole
 from tests.kill import PYTHON
 from tests.meters import Meter, line_of, payload_of
 from wmbus_fleet import broker, commandline, commands, metrics, sessions, store

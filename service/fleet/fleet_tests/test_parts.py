@@ -12,7 +12,7 @@ from functools import partial
 from pathlib import Path
 from typing import Any
 
-import messages
+from telegrams import messages
 import psycopg
 import pytest
 from tests.kill import PYTHON, program, steps_words
@@ -23,7 +23,7 @@ from wmbus_fleet import backup, broker, commandline, commands, downlinks, sessio
 from wmbus_fleet.config import Config, Gateway, Programs, Ticks
 from wmbus_fleet.gateway import Agent, arm, open_gateway
 from wmbus_fleet.intake import Consuming, Intake
-from wmbus_fleet.messages import Again, Down, Message, again_body, down_body, frames_in, gateway_in, lines_body, read_lines, read_order
+from wmbus_fleet.messages import Again, Begin, Down, Message, asked_body, down_body, frames_in, gateway_in, lines_body, read_lines, read_order, second_of
 from wmbus_service.config import Config as ServiceConfig
 from wmbus_service.config import Receiver
 from wmbus_service.steps import ProgramFailed
@@ -62,7 +62,7 @@ def test_messages_are_read_back() -> None:
     assert read_lines("up.north.gw1", lines_body(5, 7, 9, b"A 1 00\nB 2 01\n")) == Message("gw1", 5, 7, 9, ("A 1 00", "B 2 01"))
     assert read_lines("up.north.gw1", lines_body(5, 7, 9, b"")) == Message("gw1", 5, 7, 9, ())
     asked, downlink = Again("gw1", 5, 1 << 32), Down("9315010203040107", 3, "00ff", 900)
-    assert read_order("gw1", again_body(asked)) == asked
+    assert read_order("gw1", asked_body(asked)) == asked
     assert read_order("gw1", down_body(downlink)) == downlink
     assert read_order("gw1", b"wmbus-down 1 9315010203040107 3 00ff") is None
 
@@ -84,6 +84,7 @@ class House:
         self.sent_path = folder / "sent"
         prepare_folder(self.service.folder)
         self.database = open_gateway(folder / "gateway.db", NOW)
+        (self.epoch,) = self.database.execute("select epoch from numbering").fetchone()
         self.agent = Agent(Config(programs=programs()), self.told, self.service, self.database)
 
     def hear(self, lines: list[str]) -> None:
@@ -113,14 +114,13 @@ def house(tmp_path: Path) -> Iterator[House]:
         yield house
 
 
-@pytest.mark.parametrize("asked, epoch, open_numbers", [
-    (Again("gw1", int(NOW), 2), int(NOW), [2, 3]), (Again("gw1", int(NOW), 4), int(NOW), []), (Again("gw1", 0, 1), int(NOW), [1, 2, 3]),
-    (Again("gw1", 77, 9), int(NOW), [1, 2, 3]), (Again("gw1", int(NOW) + 50, 9), int(NOW) + 51, [1, 2, 3])])
-def test_sent_again(house: House, asked: Again, epoch: int, open_numbers: list[int]) -> None:
+@pytest.mark.parametrize("ahead, number, begins, open_numbers", [
+    (0, 2, None, [2, 3]), (0, 4, None, []), (None, 1, None, [1, 2, 3]), (-77, 9, None, [1, 2, 3]), (10 ** 10, 9, 10 ** 10 + 1, [1, 2, 3])])
+def test_sent_again(house: House, ahead: int | None, number: int, begins: int | None, open_numbers: list[int]) -> None:
     """From the number that is asked for; of another epoch from its first; where the fleet's epoch is a later one, in one above it."""
     before = [lines for lines, _ in house.messages().values()]
-    house.agent.send_again(asked, NOW + 30)
-    assert house.agent.numbering() == (epoch, 3)
+    house.agent.send_again(Again("gw1", 0 if ahead is None else house.epoch + ahead, number), NOW + 30)
+    assert house.agent.numbering() == (house.epoch + (begins or 0), 3)
     assert [number for number, (_, is_done) in house.messages().items() if not is_done] == open_numbers
     assert [lines for lines, _ in house.messages().values()] == before
 
@@ -129,8 +129,9 @@ def test_what_is_no_longer_kept_begins_an_epoch(house: House) -> None:
     """With the messages behind the one that was asked for, which weren't taken."""
     house.agent.forget(NOW + 7 * DAY + 15)
     assert list(house.messages()) == [3]
-    house.agent.send_again(Again("gw1", int(NOW), 2), NOW + 8 * DAY)
-    assert house.agent.numbering() == (int(NOW + 8 * DAY), 1)
+    house.agent.send_again(Again("gw1", house.epoch, 2), NOW + 8 * DAY)
+    epoch, last = house.agent.numbering()
+    assert (second_of(epoch), last) == (NOW + 8 * DAY, 1)
     assert house.messages() == {1: (b"A 2 00\n", False)}
 
 
@@ -138,8 +139,8 @@ def test_what_is_kept_for_ever(house: House) -> None:
     """0 days are no limit, as in [keep]: what the fleet asks for is sent again, and no epoch begins."""
     house.agent.told = replace(house.told, keep=0)
     house.agent.forget(NOW + 9999 * DAY)
-    house.agent.send_again(Again("gw1", int(NOW), 2), NOW + 9999 * DAY)
-    assert house.agent.numbering() == (int(NOW), 3)
+    house.agent.send_again(Again("gw1", house.epoch, 2), NOW + 9999 * DAY)
+    assert house.agent.numbering() == (house.epoch, 3)
     assert [(number, is_done) for number, (_, is_done) in house.messages().items()] == [(1, True), (2, False), (3, False)]
 
 
@@ -223,13 +224,17 @@ def fleet(both: Both, tmp_path: Path, request: pytest.FixtureRequest) -> Iterato
 
 def set_back(fleet: Fleet, version: int) -> None:
     """Has a fleet's tables be those of an earlier version."""
-    for change in ("drop schema page cascade", "drop table oddity", "alter table gateway drop column gone",
-                   "alter table meter drop column heard, drop column retired", "create index line_by_age on line (made)",
-                   "create index reading_by_age on reading (made)") if version == 1 else (
-                       "drop view page.meter", "alter table meter drop column retired",
-                       "create view page.meter as select address, name, gateway as receiver, gateway, heard from public.meter",
-                       "grant select on page.meter to public"):
+    for change in ("drop schema page cascade", "drop table ended", "drop table kept", "alter table refusal drop column gateway",
+                   "alter table gateway drop column digests, drop column lines, drop column rate, drop column strangers"):
         fleet.database.execute(change)
+    if version < 3:
+        fleet.database.execute("alter table meter drop column retired")
+    if version < 2:
+        for change in ("drop table oddity", "alter table gateway drop column gone", "alter table meter drop column heard",
+                       "create index line_by_age on line (made)", "create index reading_by_age on reading (made)"):
+            fleet.database.execute(change)
+    else:
+        fleet.database.execute("create schema page; create view page.meter as select address, name, gateway from public.meter")
     store.set_setting(fleet.database, "version", str(version))
 
 
@@ -273,7 +278,9 @@ def test_a_gateway_whose_epoch_is_behind_is_told(fleet: Fleet) -> None:
     """Else all that it says would be left for ever."""
     intake = Intake(fleet.config, fleet.database, "test")
     intake.take([Message(fleet.gateway, 9, 1, 9, ())])
-    assert intake.take([Message(fleet.gateway, 5, 1, 9, ())]) == [Again(fleet.gateway, 9, 2)]
+    asked, again = intake.take([Message(fleet.gateway, 5, 1, 9, ())])
+    assert isinstance(asked, Begin) and (asked.own, asked.last, again) == (5, 0, Again(fleet.gateway, 9, 2))
+    assert second_of(asked.epoch) == pytest.approx(time.time(), abs=60)
 
 
 def test_a_line_at_which_the_program_fails(fleet: Fleet, monkeypatch: pytest.MonkeyPatch) -> None:

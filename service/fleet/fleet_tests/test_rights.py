@@ -75,8 +75,8 @@ def test_a_gateway_has_its_own_queue_and_name_alone(fleet: Fleet, tmp_path: Path
     allowed: dict[str, Callable[[Any], object]] = {
         "its own name": published(broker.EXCHANGE, broker.up_key(area, own)),
         "its own queue": lambda channel: next(channel.consume(broker.gateway_queue(own), inactivity_timeout=0.1)),
-        "making its queue": lambda channel: broker.declare_gateway(channel, own),
-        "holding its name": lambda channel: channel.queue_declare(f"{broker.gateway_queue(own)}.held", exclusive=True),
+        "finding its queue": lambda channel: channel.queue_declare(broker.gateway_queue(own), passive=True),
+        "holding its name": lambda channel: channel.basic_consume(broker.held_queue(own), lambda *_: None, exclusive=True),
     }
     forbidden: dict[str, Callable[[Any], object]] = {
         "another's name": published(broker.EXCHANGE, broker.up_key(area, other)),
@@ -89,7 +89,9 @@ def test_a_gateway_has_its_own_queue_and_name_alone(fleet: Fleet, tmp_path: Path
         "reading an area": lambda channel: next(channel.consume(broker.area_queue(area), inactivity_timeout=1)),
         "binding its queue": lambda channel: channel.queue_bind(broker.gateway_queue(own), broker.EXCHANGE, "up.#"),
         "a queue of its own": lambda channel: channel.queue_declare("", exclusive=True),
-        "holding another's name": lambda channel: channel.queue_declare(f"{queue}.held", exclusive=True),
+        "holding another's name": lambda channel: channel.basic_consume(broker.held_queue(other), lambda *_: None),
+        "making its queue": lambda channel: broker.declare_gateway(channel, own),
+        "making it anew": lambda channel: channel.queue_delete(broker.gateway_queue(own)),
         "emptying": lambda channel: channel.queue_purge(queue),
         "deleting": lambda channel: channel.queue_delete(queue),
         "deleting the exchange": lambda channel: channel.exchange_delete(broker.EXCHANGE),
@@ -125,7 +127,8 @@ def test_it_moves_and_goes(fleet: Fleet, tmp_path: Path) -> None:
     gateways.remove(fleet.config, fleet.database, name)
     with pytest.raises(pika.exceptions.AMQPError), broker.connected(told):
         pass
-    assert before.keys() - administration.Administration(fleet.config.broker).depths().keys() == {broker.gateway_queue(name)}
+    assert before.keys() - administration.Administration(fleet.config.broker).depths().keys() == {
+        broker.gateway_queue(name), broker.held_queue(name)}
     with pytest.raises(Trouble, match="--files"):
         gateways.add(fleet.config, fleet.database, fleet.area, name, None)
     assert gateways.add(fleet.config, fleet.database, fleet.area, name, tmp_path / "files")
@@ -142,7 +145,7 @@ def test_a_gateway_whose_user_went(fleet: Fleet, tmp_path: Path) -> None:
         gateways.add(fleet.config, fleet.database, f"{fleet.area}2", name, None)
     assert store.one(fleet.database, "select area from gateway where name = %s", (name,)) == fleet.area
     assert not gateways.add(fleet.config, fleet.database, f"{fleet.area}2", name, tmp_path / "files")
-    assert refused(as_gateway(fleet, tmp_path, name), lambda channel: broker.declare_gateway(channel, name)) is None
+    assert refused(as_gateway(fleet, tmp_path, name), lambda channel: next(channel.consume(broker.gateway_queue(name), inactivity_timeout=0.1))) is None
 
 
 def test_its_files_are_its_owners(fleet: Fleet, tmp_path: Path) -> None:
@@ -295,7 +298,7 @@ def test_each_word_has_its_help(capsys: pytest.CaptureFixture[str]) -> None:
         commandline.main(["--help"])
     words = [line.split()[0] for line in capsys.readouterr().out.splitlines() if line.startswith("    ") and line[4] != " "]
     assert {"gateway", "intake", "sessions", "downlinks", "page", "metrics", "demo", "init", "area", "gateways", "remove", "commission",
-            "command", "commands", "correct", "rekey", "retire", "status", "backup", "restore"} == set(words)
+            "allow", "command", "commands", "correct", "rekey", "retire", "set-back", "status", "backup", "restore"} == set(words)
     for word in words:
         with pytest.raises(SystemExit) as ended:
             commandline.main([word, "--help"])
@@ -303,12 +306,12 @@ def test_each_word_has_its_help(capsys: pytest.CaptureFixture[str]) -> None:
         assert ended.value.code == 0 and "exit status" in told and len(told.split("\n\n")[1]) > 20, word
 
 
-@pytest.mark.parametrize("version", [1, 2])
+@pytest.mark.parametrize("version", [1, 2, 3])
 def test_tables_of_the_release_before(fleet: Fleet, version: int) -> None:
     """`init` makes of them this one's; a page and parts refuse them until then."""
     set_back(fleet, version)
     fleet.database.execute("insert into reading values (5, %s, 'gw', 1, 77, '', null, false, '[]', 1234)", (fleet.meters[0].name,))
-    if version == 2:
+    if version > 1:
         fleet.database.execute("update meter set heard = 1234 where address = %s", (fleet.meters[0].name,))
     with pytest.raises(Trouble, match="init"):
         store.connect(fleet.config.database)
@@ -318,7 +321,7 @@ def test_tables_of_the_release_before(fleet: Fleet, version: int) -> None:
         store.init(fleet.config.database)
     with store.connect(fleet.config.database) as database:
         assert store.pairs(database, "select address, heard from page.meter where retired is null")[fleet.meters[0].name] == 1234
-        assert store.one(database, "select has_table_privilege('public', 'page.meter', 'select')")
+        assert not store.one(database, "select has_table_privilege('public', 'page.meter', 'select')")
 
 
 def test_a_worker_more_and_less(fleet: Fleet, tmp_path: Path) -> None:

@@ -16,7 +16,7 @@ from flask.testing import FlaskClient
 from prometheus_client import CollectorRegistry, generate_latest
 from prometheus_client.parser import text_string_to_metric_families
 from tests.page_house import entered, forms_word
-from wmbus_fleet import demo, metrics, store
+from wmbus_fleet import allowing, demo, metrics, store
 from wmbus_fleet.config import Broker
 from wmbus_fleet.demo import COMMAND, Demo
 from wmbus_fleet.made_town import LISTENING
@@ -101,7 +101,8 @@ def test_the_overview(shown: Shown) -> None:
     assert [(it["what"], it["title"]) for it in told["looks"]] == [("never heard", "Gateway shown-south-3 in shown-south")]
     # (each fourth meter is heard by one of four gateways; the wrong meter's one is in the south)
     assert [(it["name"], it["gateways"], it["silent_gateways"], it["meters"], it["refused"] > 0) for it in told["areas"]] == [
-        ("shown-north", 2, 0, 20, False), ("shown-south", 3, 1, 20, True)]
+        # (the meter whose key is wrong is of none: nobody authenticated what came of it)
+        ("shown-north", 2, 0, 20, False), ("shown-south", 3, 1, 19, True)]
     page = shown.client().get("/").text
     assert "39 of 40" in page and "never heard" in page and "shown-south" in page
 
@@ -145,7 +146,7 @@ def test_gateways_areas_strangers(shown: Shown) -> None:
     rows = {it["name"]: it for it in shown.data("/api/gateways")["gateways"]}
     assert [name for name, it in rows.items() if it["is_silent"]] == ["shown-south-3"]
     assert [it["name"] for it in shown.data("/api/gateways?silent=1")["gateways"]] == ["shown-south-3"]
-    assert {name: it["meters"] for name, it in rows.items()} == {**{name: 10 for name in rows}, "shown-south-3": 0}
+    assert {name: it["meters"] for name, it in rows.items()} == {**{name: 10 for name in rows}, "shown-south-2": 9, "shown-south-3": 0}
     refused = shown.data("/api/areas/shown-south")["refusals"]
     assert [(it["reason"], it["meters"]) for it in refused] == [("check", 1)] and refused[0]["to_do"]
     assert shown.data("/api/areas/shown-north")["refusals"] == []
@@ -184,6 +185,8 @@ def test_the_pages_role_reads_no_key(shown: Shown) -> None:
     """A role of the server's own for the page reads what the page shows, and neither keys nor frames, and changes nothing."""
     with psycopg.connect(shown.made.config.database, autocommit=True) as database:
         database.execute(f"create role looker login password '{shown.both.postgres.password}'")
+    with store.connect(shown.made.config.database) as own:
+        allowing.allow(own, "page", "looker")
     words = shown.both.postgres.words("shown", "looker")
     app = create_app(type(shown.made.config)(database=words)).test_client()
     for path in ("/", "/meters", f"/meters/{shown.made.town.meters[0].address.hex()}", "/gateways", "/areas/shown-south", "/strangers"):

@@ -7,6 +7,7 @@ import hashlib
 import json
 import re
 import secrets
+import time
 import urllib.error
 import urllib.request
 from http.client import HTTPException
@@ -21,7 +22,9 @@ from .config import Broker
 PATIENCE = 20.0
 # RabbitMQ's own words for a virtual host, and for salted SHA-256
 HOST, HASHING = "%2F", "rabbit_password_hashing_sha256"
-NONE = "^$"
+NONE = r"^\z"
+# a gateway has one connection with three channels; those of before may be there for a moment, and a second machine of its name is told so
+LIMITS = {"max-connections": 6, "max-channels": 24}
 
 
 class Administration:
@@ -52,10 +55,12 @@ class Administration:
         return self._ask("GET", f"users/{quote(gateway)}", may_lack=True) is not None
 
     def put_rights(self, area: str, gateway: str) -> None:
-        """Lets a gateway read its own queue, and publish under its own name in its area; nothing else."""
+        """Lets a gateway read its own queues, and publish under its own name in its area; nothing else, over few connections."""
         queue, held = (re.escape(it) for it in (broker.gateway_queue(gateway), broker.held_queue(gateway)))
         self._ask("PUT", f"permissions/{HOST}/{quote(gateway)}",
-                  {"configure": f"^({queue}|{held})$", "write": f"^{broker.EXCHANGE}$", "read": f"^{queue}$"})
+                  {"configure": NONE, "write": f"^{broker.EXCHANGE}\\z", "read": f"^({queue}|{held})\\z"})
+        for what, most in LIMITS.items():
+            self._ask("PUT", f"user-limits/{quote(gateway)}/{what}", {"value": most})
         # (at a $ a newline may stand behind the name)
         self._ask("PUT", f"topic-permissions/{HOST}/{quote(gateway)}",
                   {"exchange": broker.EXCHANGE, "write": f"^{re.escape(broker.up_key(area, gateway))}\\z", "read": NONE})
@@ -63,8 +68,17 @@ class Administration:
     def remove(self, gateway: str) -> None:
         """Takes a gateway's user away, and ends its connections."""
         self._ask("DELETE", f"users/{quote(gateway)}", may_lack=True)
-        for it in self._ask("GET", f"connections/username/{quote(gateway)}") or []:
-            self._ask("DELETE", f"connections/{quote(str(it['name']), safe='')}", may_lack=True)
+        self.end_connections(gateway)
+
+    def end_connections(self, gateway: str) -> None:
+        """Ends all connections of a gateway's user, also one that comes to be known of meanwhile."""
+        limit = time.monotonic() + PATIENCE
+        while found := self._ask("GET", f"connections/username/{quote(gateway)}"):
+            for it in found:
+                self._ask("DELETE", f"connections/{quote(str(it['name']), safe='')}", may_lack=True)
+            if time.monotonic() > limit:
+                raise Trouble(f"gateway {gateway}", "RabbitMQ doesn't end its connections", "`rabbitmqctl list_connections name user` names them")
+            time.sleep(0.1)
 
     def depths(self) -> dict[str, int]:
         """How many messages each queue has."""

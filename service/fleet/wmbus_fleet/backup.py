@@ -14,8 +14,9 @@ from wmbus_service.commands import OPEN
 from wmbus_service.config import words_of
 from wmbus_service.trouble import Trouble
 
-from . import store
+from . import mark, store
 from .config import Config
+from .schema import SHARDS
 from .store import Database
 
 PIECE = 4096
@@ -64,9 +65,24 @@ def restore(config: Config, source: Path, margin: int) -> int:
     with store.connect(config.database, is_restored=False) as database, store.transaction(database):
         count = raise_counters(config, database, margin)
         _give_up(database, time.time())
+        mark.renew(database)
         # (a copy has no figures of its tables, and without them each question goes the long way until PostgreSQL takes some)
         database.execute("analyze")
         database.execute("drop table restoring")
+    return count
+
+
+def set_back(config: Config, margin: int) -> int:
+    """Does with a database that was set back what `restore` does with a copy; how many meters there are. Sessions that are at work end
+    before."""
+    if not 0 <= margin <= HIGHEST:
+        raise Trouble("the margin", "it isn't a number from 0 to 2^32 - 1", "docs/FLEET.md says how large it has to be")
+    with store.connect(config.database) as database, store.transaction(database):
+        for shard in range(SHARDS):
+            database.execute("select pg_advisory_xact_lock(%s, %s)", (store.SESSIONS, shard))
+        count = raise_counters(config, database, margin)
+        _give_up(database, time.time())
+        mark.renew(database)
     return count
 
 

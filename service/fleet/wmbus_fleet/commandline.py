@@ -20,14 +20,14 @@ from wmbus_service.memory_files import leave_no_core
 from wmbus_service.meters import MODES
 from wmbus_service.page.shared import counted
 from wmbus_service.printing import leave_unread, parsed
+from wmbus_service.tool_modules import ShowVersion
 from wmbus_service.trouble import Trouble
 
-from . import backup, broker, commands, downlinks, gateway, gateways, intake, retiring, sessions, store
+from . import allowing, backup, broker, commands, downlinks, gateway, gateways, intake, retiring, sessions, store
 from .config import Config, read_config
 from .status import command_words, gateway_words, status
 
 DONE, TROUBLE = 0, 1
-VERSION = "0.1.0"
 STATUSES = "exit status: 0 all is done, 1 something is wrong and was named, 2 faulty words"
 MARGIN = 1000
 Command = Callable[[str, Callable[[Config, argparse.Namespace], None], str], argparse.ArgumentParser]
@@ -69,7 +69,7 @@ def words() -> argparse.ArgumentParser:
     parser = argparse.ArgumentParser(prog="wmbus-fleet", description=__doc__, epilog=STATUSES)
     parser.add_argument("--config", metavar="FILE", type=Path, default=Path(os.environ.get("WMBUS_FLEET_CONFIG", "/etc/wmbus/fleet.toml")),
                         help="the configuration, /etc/wmbus/fleet.toml where none is named")
-    parser.add_argument("--version", action="version", version=f"wmbus-fleet {VERSION}")
+    parser.add_argument("--version", action=ShowVersion)
     kinds = parser.add_subparsers(metavar="COMMAND", required=True)
 
     def command(name: str, work: Callable[[Config, argparse.Namespace], None], told: str) -> argparse.ArgumentParser:
@@ -155,6 +155,15 @@ def _operating_words(command: Command) -> None:
     made.add_argument("file", metavar="FILE", type=Path)
     made.add_argument("--margin", metavar="N", type=int, default=MARGIN,
                       help=f"raises downlink counters so far, at least by what was sent to a meter since the copy ({MARGIN})")
+
+
+    made = command("set-back", _set_back, "says that the database was set back, as by a snapshot, a recovery or a standby: raises all downlink"
+                                          " counters, and cancels what was open; no part works meanwhile")
+    made.add_argument("--margin", metavar="N", type=int, default=MARGIN,
+                      help=f"raises downlink counters so far, at least by what was sent to a meter since that moment ({MARGIN})")
+    made = command("allow", _allow, "lets a role of PostgreSQL's, which has no key by that, be the page's or an intake's")
+    made.add_argument("kind", choices=sorted(allowing.KINDS), help="what it is for")
+    made.add_argument("role", metavar="ROLE")
 
 
 def _ending() -> Ending:
@@ -305,6 +314,15 @@ def _backup(config: Config, asked: argparse.Namespace) -> None:
     # (who ends it so, as a timer whose time is over, finds no part of a copy either)
     signal.signal(signal.SIGTERM, signal.default_int_handler)
     backup.back_up(config, asked.file)
+
+
+def _set_back(config: Config, asked: argparse.Namespace) -> None:
+    print(f"set back, with {backup.set_back(config, asked.margin)} meters")
+
+
+def _allow(config: Config, asked: argparse.Namespace) -> None:
+    with store.connect(config.database) as database:
+        allowing.allow(database, asked.kind, asked.role)
 
 
 def _restore(config: Config, asked: argparse.Namespace) -> None:

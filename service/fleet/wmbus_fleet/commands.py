@@ -17,6 +17,7 @@ from wmbus_service.trouble import Trouble
 
 from . import broker, retiring, store
 from .config import Config
+from .schema import SHARDS
 from .store import Database
 
 log = logging.getLogger("wmbus")
@@ -150,6 +151,7 @@ def commission(config: Config, database: Database, path: Path) -> tuple[int, int
 def take_roster(config: Config, database: Database, text: str, path: object) -> tuple[int, int]:
     """Adds a roster's new meters; what is known of the others stays, and those that are out of service are put back. How many are new, and
     how many came back. A roster may have any number of meters."""
+    first = _last_line(database)
     for number, piece in enumerate(pieces_of(text)):
         # (what is said of a line counts from the piece's first one)
         judge_roster(words_of(config.programs.steps), piece, f"{path}, behind its first {number * PIECE} meters" if number else path)
@@ -162,9 +164,37 @@ def take_roster(config: Config, database: Database, text: str, path: object) -> 
                 raise Trouble(path, f"the collector's own address is {own}, and the database has {known}",
                               "write that of the database there")
             store.set_setting(database, "own", own)
-            added += _add_meters(database, meters)
+            added += len(_hear_again(database, _new_among(database, meters), meters, first))
             back += retiring.mark(database, [fields[1].lower() for fields in meters], None)
     return added, back
+
+
+def _last_line(database: Database) -> int:
+    """The number of the last line that a session has heard; each that is at work ends before."""
+    with store.transaction(database):
+        for shard in range(SHARDS):
+            database.execute("select pg_advisory_xact_lock(%s, %s)", (store.SESSIONS, shard))
+        return int(store.one(database, "select case when is_called then last_value else 0 end from line_number"))
+
+
+def _new_among(database: Database, meters: Sequence[Sequence[str]]) -> list[str]:
+    """Within a transaction: those of a roster's meters that aren't known; no session has any of them in hand until it ends."""
+    new = [address for (address,) in database.execute(
+        "select n.address from unnest(%s::text[]) as n (address) where not exists (select 1 from meter m where m.address = n.address)",
+        ([fields[1].lower() for fields in meters],)).fetchall()]
+    # (what a session has heard of them by now it has heard as a stranger's, and committed)
+    for (shard,) in database.execute("select distinct shard_of(address) from unnest(%s::text[]) as n (address) order by 1", (new,)).fetchall():
+        database.execute("select pg_advisory_xact_lock(%s, %s)", (store.SESSIONS, shard))
+    return new
+
+
+def _hear_again(database: Database, new: list[str], meters: Sequence[Sequence[str]], first: int) -> list[str]:
+    """Adds a roster's meters; lines of the new ones that were heard as a stranger's behind a number are heard again."""
+    _add_meters(database, meters)
+    database.execute("with gone as (delete from line where number > %s and gateway is not null and address = any(%s) returning *)"
+                     " insert into inbox (address, gateway, epoch, message, place, text) select address, gateway, epoch, message, place, text"
+                     " from gone order by number", (first, new))
+    return new
 
 
 def _add_meters(database: Database, meters: Sequence[Sequence[str]]) -> int:

@@ -10,7 +10,7 @@ import psycopg
 from wmbus_service.ending import Ending
 from wmbus_service.trouble import Trouble
 
-from . import broker, store
+from . import broker, mark, store
 from .config import Config
 from .messages import Down, down_body
 from .store import Database
@@ -18,20 +18,56 @@ from .store import Database
 log = logging.getLogger("wmbus")
 
 AT_ONCE, PAUSE = 100, 0.5
+# a gateway whose queue refuses a downlink gets none for so many seconds
+PASSED_SECONDS = 10.0
 
 
-def send(config: Config, database: Database, channel: Any, now: float) -> int:
+class Passed:
+    """Gateways whose queues refused a downlink a moment ago: the others' go out meanwhile."""
+
+    def __init__(self) -> None:
+        self.until: dict[str, float] = {}
+        self.told: set[str] = set()
+
+    def names(self) -> list[str]:
+        """Who is passed over now."""
+        return [name for name, until in self.until.items() if time.monotonic() < until]
+
+    def put(self, gateway: str, fault: Exception) -> None:
+        """A gateway's queue refused one."""
+        if gateway not in self.told:
+            log.error("downlinks: gateway %s is passed over, whose downlinks wait: %s", gateway, fault)
+        self.told.add(gateway)
+        self.until[gateway] = time.monotonic() + PASSED_SECONDS
+
+    def forget(self, gateway: str) -> None:
+        """Its queue took one."""
+        self.told.discard(gateway)
+
+
+def send(config: Config, database: Database, channel: Any, now: float, passed: Passed | None = None) -> int:
     """Sends what is committed and not sent yet, the oldest first; how many rows it saw.
 
     One that went out just before the sender was killed goes out again: its gateway, or else its meter, leaves the copy."""
+    passed = passed or Passed()
     rows = database.execute("select id, gateway, address, down, frame, made from outbox where sent is null and missed is null"
-                            " order by id limit %s", (AT_ONCE,)).fetchall()
+                            " and (not gateway = any(%s) or made < %s) order by id limit %s",
+                            (passed.names(), now - config.ticks.window, AT_ONCE)).fetchall()
+    if rows:
+        mark.grow(database, channel)
     for ident, gateway, address, down, frame, made in rows:
         # (one that was made while a clock was ahead counts for no longer either, and the broker refuses what would count for many years)
         left = int(min(made, now) + config.ticks.window - now)
-        fault = "it is too late: the meter's window is closed" if left < 1 else _sent(channel, gateway, Down(address, down, frame, left))
+        if left >= 1 and gateway in passed.names():
+            continue
+        try:
+            fault = "it is too late: the meter's window is closed" if left < 1 else _sent(channel, gateway, Down(address, down, frame, left))
+        except broker.QueueRefuses as refused:
+            passed.put(gateway, refused)
+            continue
         if fault is None:
             mark_sent(database, ident, time.time())
+            passed.forget(gateway)
         else:
             log.warning("the downlink %d of meter %s wasn't sent: %s", down, address, fault)
             database.execute("update outbox set missed = %s where id = %s", (fault, ident))
@@ -64,9 +100,10 @@ def run(config: Config, ending: Ending) -> None:
                     if ending.wait(PAUSE):
                         return
                 with broker.connected(config.broker) as connection:
-                    channel = broker.opened(connection)
+                    channel, passed = broker.opened(connection), Passed()
+                    mark.judge(database, channel)
                     while not ending.is_set():
-                        count = send(config, database, channel, time.time())
+                        count = send(config, database, channel, time.time(), passed)
                         trouble = ""
                         if not count:
                             connection.process_data_events(config.interval)

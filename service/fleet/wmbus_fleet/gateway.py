@@ -26,7 +26,7 @@ from wmbus_service.trouble import Trouble
 
 from . import broker
 from .config import Config, Gateway
-from .messages import LAST, MOST, Again, Down, lines_body, read_order
+from .messages import EPOCH_AHEAD, LAST, MOST, Again, Begin, Down, is_far, lines_body, new_epoch, read_order
 from .programs import addresses_of
 
 log = logging.getLogger("wmbus")
@@ -58,7 +58,7 @@ def open_gateway(path: Path, now: float) -> sqlite3.Connection:
     finally:
         os.umask(before)
     # (in one commit: whoever looks into it finds all of it)
-    database.executescript(f"begin immediate;{TABLES}insert or ignore into numbering values (1, {int(now)}, 0);commit;")
+    database.executescript(f"begin immediate;{TABLES}insert or ignore into numbering values (1, {new_epoch(now)}, 0);commit;")
     return database
 
 
@@ -119,7 +119,7 @@ class Agent:
         if self.database.execute("select 1 from message where not acknowledged limit 1").fetchone():
             return True
         with store.transaction(self.database):
-            self._begin(epoch + 1, last + 1, now)
+            self._begin(max(epoch + 1, new_epoch(now)), last + 1)
         return False
 
     def numbering(self) -> tuple[int, int]:
@@ -148,19 +148,23 @@ class Agent:
         """What the fleet says to the gateway."""
         order = read_order(self.told.name, body)
         if isinstance(order, Again):
-            self.send_again(order, now)
+            self.send_again(order, now, published)
+        elif isinstance(order, Begin):
+            self.begin_anew(order, now, published)
         elif isinstance(order, Down):
             arm(self.database, left_of(order, now, published), now)
         else:
             log.error("%s: the fleet said something that isn't understood", self.told.name)
 
-    def send_again(self, asked: Again, now: float) -> None:
+    def send_again(self, asked: Again, now: float, published: int | None = None) -> None:
         """Sends all messages from one on again; those of a new epoch where that one isn't kept any more."""
+        if self._is_too_far(asked.epoch, now, published):
+            return
         with store.transaction(self.database):
             epoch, last = self.numbering()
             if asked.epoch > epoch:
                 # (its state is older than what the fleet knows: nothing of this epoch was taken)
-                self._begin(asked.epoch + 1, 1, now)
+                self._begin(max(asked.epoch + 1, new_epoch(now)), 1)
                 return
             number = asked.number if asked.epoch == epoch else 1
             if number > last:
@@ -168,16 +172,32 @@ class Agent:
             if self.database.execute("select 1 from message where number = ?", (number,)).fetchone():
                 self.database.execute("update message set acknowledged = 0 where number >= ?", (number,))
             else:
-                self._begin(epoch + 1, number, now)
+                self._begin(max(epoch + 1, new_epoch(now)), number)
 
-    def _begin(self, epoch: int, first: int, now: float) -> None:
+    def begin_anew(self, asked: Begin, now: float, published: int | None = None) -> None:
+        """Begins the epoch that the fleet names with what it hasn't taken; one that was begun already is left as it is."""
+        if self._is_too_far(asked.epoch, now, published):
+            return
+        with store.transaction(self.database):
+            if self.numbering()[0] == asked.own:
+                self._begin(asked.epoch, asked.last + 1)
+
+    def _is_too_far(self, epoch: int, now: float, published: int | None) -> bool:
+        """Whether an epoch is so far above now, by this machine's clock and by that of who asks, that none could begin behind it."""
+        if not is_far(epoch, max(now, published or 0) + EPOCH_AHEAD):
+            return False
+        log.error("%s: the fleet asks for epoch %d, which is far above now, and isn't heeded: `wmbus-fleet gateways AREA %s --files FOLDER`"
+                  " there sets right which epoch it knows", self.told.name, epoch, self.told.name)
+        return True
+
+    def _begin(self, epoch: int, first: int) -> None:
         """Begins an epoch with the messages from this one on that are kept. (Each stays where it is: a week of them has no room in the
         memory of a small machine.)"""
         self.database.execute("delete from message where number < ?", (first,))
         kept = self.database.execute("select number from message order by number").fetchall()
         self.database.executemany("update message set number = ?, acknowledged = 0 where number = ?",
                                   [(place, number) for place, (number,) in enumerate(kept, 1)])
-        self.database.execute("update numbering set epoch = ?, last = ?", (max(epoch, int(now)), len(kept)))
+        self.database.execute("update numbering set epoch = ?, last = ?", (epoch, len(kept)))
         log.warning("%s: an epoch begins with %d messages that are kept", self.told.name, len(kept))
 
     # ---- downlinks
@@ -244,12 +264,11 @@ class Agent:
 
     def _serve(self, connection: Any, ending: Ending) -> None:
         """Goes on as long as the connection stands."""
-        channel = broker.opened(connection)
-        is_taken = broker.declare_gateway(channel, self.told.name) or not broker.hold_gateway(connection, self.told.name)
+        is_taken = broker.find_gateway(connection, self.told.name) or not broker.hold_gateway(connection, self.told.name)
         # (one of an earlier release doesn't hold it: two that come in the same moment, as behind a start of the broker, don't ask in the same
         # one again)
         ending.wait(random.uniform(0, PAUSE))
-        if is_taken or broker.declare_gateway(channel, self.told.name):
+        if is_taken or broker.find_gateway(connection, self.told.name):
             # (both would number messages of their own under one name, and of each number one is taken)
             raise Trouble(f"gateway {self.told.name}", "another one with this name is connected, or its connection isn't closed yet",
                           f"where it stays so, give each its own name, unless the broker reads nothing of it, since {broker.SHORT}")
@@ -258,6 +277,7 @@ class Agent:
             self.hear(body, time.time(), properties.timestamp)
             channel.basic_ack(method.delivery_tag)
 
+        channel = broker.opened(connection)
         broker.consume(channel, broker.gateway_queue(self.told.name), told)
         while not ending.is_set():
             now = time.time()

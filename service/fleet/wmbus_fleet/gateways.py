@@ -3,13 +3,14 @@ from __future__ import annotations
 
 import os
 import secrets
+import time
 from collections.abc import Sequence
 from contextlib import suppress
 from pathlib import Path
 
 from wmbus_service.trouble import Trouble
 
-from . import broker, commands, store
+from . import broker, commands, fences, store
 from .administration import Administration
 from .config import Config
 from .store import Database
@@ -57,6 +58,11 @@ def _add(config: Config, database: Database, area: str, name: str, folder: Path 
         if folder is not None:
             asked.put_password(name, put_files(config, folder, area, name))
         asked.put_rights(area, name)
+        if folder is not None and not is_new:
+            # (who has the password of before is connected perhaps, and isn't asked for it again)
+            asked.end_connections(name)
+            with store.transaction(database):
+                fences.put_in_place(database, name, time.time())
     return is_new or not is_known
 
 

@@ -4,7 +4,8 @@ from __future__ import annotations
 import logging
 import time
 from collections import Counter
-from collections.abc import Mapping, Sequence
+from collections.abc import Sequence
+from contextlib import ExitStack
 from typing import Any
 
 import psycopg
@@ -13,23 +14,26 @@ from wmbus_service.ending import Ending
 from wmbus_service.steps import ProgramFailed
 from wmbus_service.trouble import Trouble
 
-from . import broker, store
+from . import broker, fences, oddities, store
+from .asking import Asking, ask
 from .config import Config
-from .messages import Again, Message, again_body, frames_in, gateway_in, read_lines
-from .programs import Fence, accept, addresses_of
+from .fences import Known, put_fences
+from .messages import Again, Begin, Message, area_in, frames_in, gateway_in, is_far, read_lines
+from .oddities import DIFFERS, ELSEWHERE, FAILING, FAR_ANSWER, FORM, HEADERS, MANY, SET_BACK, Oddities
+from .programs import Fence, accept, addresses_of, is_lack
 from .store import Database
+from .turns import Held, next_batch
 
+__all__ = ["Consuming", "Intake", "acknowledge", "ask", "run"]
 log = logging.getLogger("wmbus")
 
 # so many messages in hand (2,000 gateways send a thousand a second), so many lines a transaction
 PREFETCH, MOST = 800, 4000
 LOOK, PAUSE = 0.05, 0.5
-SLACK, SET_BACK = 60, "a message of later moments under a number that was taken before (its file or its clock was set back)"
-ANEW = ("; where that goes on nothing that it hears is taken until it begins anew. On its machine, as root: systemctl stop wmbus-gateway"
-        " wmbus-receiver@RECEIVER; rm /var/lib/wmbus/gateway.{}.db* /var/lib/wmbus/spool/RECEIVER.*.lines; systemctl start"
-        " wmbus-receiver@RECEIVER wmbus-gateway")
 # a gateway is asked again where nothing came of it
 ASKED_SECONDS = 2
+# of so many lines of meters that aren't known each is kept, of a gateway and a transaction; more are counted
+STRANGERS = 50
 
 
 class Intake:
@@ -38,20 +42,24 @@ class Intake:
     def __init__(self, config: Config, database: Database, name: str) -> None:
         self.config, self.database, self.worker = config, database, f"intake {name}"
 
-    def take(self, messages: Sequence[Message], rubbish: Sequence[str] = ()) -> list[Again]:
-        """One transaction over messages: what is taken of them, and how far; who has to be asked. Of these gateways one was out of form."""
-        counts: Counter[str] = Counter(messages=len(messages) + len(rubbish))
+    def take(self, messages: Sequence[Message], rubbish: Sequence[tuple[str, str]] = (), left: Sequence[Message] = ()) -> list[Again | Begin]:
+        """One transaction over messages: what is taken of them, and how far; who has to be asked. Of gateways of which something else came it
+        is counted what; what is left since others wait too is asked for."""
+        counts: Counter[str] = Counter(messages=len(messages) + len(rubbish) + len(left), left=len(left))
         with store.transaction(self.database):
-            fences = self._fences({it.gateway for it in messages})
-            told = accept(words_of(self.config.programs.line_accept), fences, messages)
-            taken = [message for message, answer in zip(messages, told.answers, strict=True) if answer == "take"]
+            known = self._fences({it.gateway for it in messages})
+            last = fences.known(self.database, sorted(known))
+            answers, moved = self._answers(known, messages)
+            taken = [message for message, answer in zip(messages, answers, strict=True) if answer == "take"]
             counts["lines"] = put_lines(self.config, self.database, taken)
-            put_fences(self.database, told.fences, {message.gateway: message.until for message in taken})
-            self._put_missing(fences, taken)
-            asked = self._asked(fences, messages, told.answers)
-            put_oddities(self.database, oddities(fences, messages, told.answers, rubbish) + self._set_back(messages, told.answers))
-            counts.update(answer.split(" ")[0] for answer in told.answers)
-            counts["asked"] = len(asked)
+            strange, wrong = look_at(last, messages, answers)
+            put_fences(self.database, moved, last)
+            fences.put_ends(self.database, known, taken)
+            asked = self._asked(known, known | moved, messages, answers, wrong, left)
+            odd = [*rubbish, *((it.gateway, MANY) for it in left)]
+            oddities.put(self.database, oddities.of_answers(known, messages, answers, odd) + strange)
+            counts.update(answer.split(" ")[0] for answer in answers)
+            counts["asked"] = len({it.gateway for it in asked})
             store.add_totals(self.database, self.worker, counts)
         return asked
 
@@ -62,165 +70,218 @@ class Intake:
                                      (sorted(names),)).fetchall()
         return {name: (epoch, number) for name, epoch, number in rows}
 
-    def _put_missing(self, fences: Mapping[str, Fence], taken: Sequence[Message]) -> None:
-        """Epochs behind which a later one began."""
-        last = dict(fences)
-        for message in taken:
-            epoch, number = last[message.gateway]
-            if message.epoch > epoch > 0:
-                self.database.execute("insert into missing values (%s, %s, %s, %s)", (message.gateway, epoch, number, time.time()))
-                log.warning("%s: an epoch began behind message %d of the one before, whose later ones may be gone", message.gateway, number)
-            last[message.gateway] = message.epoch, message.number
+    def _answers(self, known: dict[str, Fence], messages: Sequence[Message]) -> tuple[list[str], dict[str, Fence]]:
+        """What becomes of each message, and the fences that move: behind an epoch that is far above now none could ever begin."""
+        now = time.time()
+        near = [it for it in messages if it.epoch <= known.get(it.gateway, (it.epoch, 0))[0] or not is_far(it.epoch, now)]
+        told = accept(words_of(self.config.programs.line_accept), known, near)
+        answers = iter(told.answers)
+        kept = {id(it) for it in near}
+        return [next(answers) if id(it) in kept else FAR_ANSWER for it in messages], told.fences
 
-    def _set_back(self, messages: Sequence[Message], answers: Sequence[str]) -> Counter[tuple[str, str]]:
-        """Messages under numbers that were taken, though they tell of later moments than all that was: a gateway's file is an older one."""
-        again = [it for it, answer in zip(messages, answers, strict=True) if answer == "again"]
-        if not again:
-            return Counter()
-        rows = self.database.execute("select name, epoch, until from gateway where name = any(%s)", ([it.gateway for it in again],))
-        # (a clock is set right by some seconds again and again)
-        last = {name: (epoch, until + SLACK) for name, epoch, until in rows.fetchall()}
-        return Counter((it.gateway, SET_BACK) for it in again if it.epoch == last[it.gateway][0] and it.until > last[it.gateway][1])
-
-    def _asked(self, fences: Mapping[str, Fence], messages: Sequence[Message], answers: Sequence[str]) -> list[Again]:
+    def _asked(self, known: dict[str, Fence], moved: dict[str, Fence], messages: Sequence[Message], answers: Sequence[str],
+               wrong: dict[str, Message], left: Sequence[Message]) -> list[Again | Begin]:
         """Whom to ask for what, each not too often."""
-        wanted: dict[str, Again] = {}
+        wanted: dict[str, list[Again | Begin]] = {}
+        now = time.time()
         for message, answer in zip(messages, answers, strict=True):
             word, *rest = answer.split(" ")
+            name = message.gateway
             if word == "ask":
-                wanted[message.gateway] = Again(message.gateway, int(rest[0]), int(rest[1]))
+                wanted[name] = [Again(name, int(rest[0]), int(rest[1]))]
             elif word == "take":
-                wanted.pop(message.gateway, None)
-            elif word == "again" and message.epoch < fences[message.gateway][0]:
-                # (its epoch is behind ours, as where its clock or its state was set back: all that it says would be left for ever)
-                epoch, number = fences[message.gateway]
-                wanted[message.gateway] = Again(message.gateway, epoch, number + 1)
+                wanted.pop(name, None)
+            elif word == FAR_ANSWER or word == "again" and message.epoch < known[name][0]:
+                # (as where its clock or its state was set back: all that it says would be left for ever)
+                wanted[name] = fences.begun_anew(self.database, moved[name], message, now)
+        for name, message in wrong.items():
+            # (what is behind the last message that is the same was never taken)
+            wanted[name] = [Begin(name, fences.behind(moved[name], now), message.epoch, message.number - 1)]
+        for message in left:
+            wanted.setdefault(message.gateway, [Again(message.gateway, message.epoch, message.number)])
+        wanted = {name: orders for name, orders in wanted.items() if orders}
         if not wanted:
             return []
         # (a clock that is set back doesn't keep it from that)
         rows = self.database.execute("update gateway set asked = now() where name = any(%s) and (asked is null or"
                                      " abs(extract(epoch from now() - asked)) > %s) returning name",
                                      (sorted(wanted), ASKED_SECONDS)).fetchall()
-        return [wanted[name] for (name,) in rows]
+        return [order for (name,) in rows for order in wanted[name]]
 
 
-def oddities(fences: Mapping[str, Fence], messages: Sequence[Message], answers: Sequence[str], rubbish: Sequence[str]
-             ) -> Counter[tuple[str, str]]:
-    """What nobody can take of what gateways say: of each gateway what it is, and how often."""
-    found = Counter((name, "a message that is out of form") for name in rubbish)
-    epochs = {name: epoch for name, (epoch, _) in fences.items()}
+def look_at(last: dict[str, Known], messages: Sequence[Message], answers: Sequence[str]) -> tuple[Oddities, dict[str, Message]]:
+    """Goes on with what is known of gateways. Messages under numbers that were taken, though they are others, or tell of later moments than
+    all that was: a gateway's file is an older one; and the first other one of each gateway."""
+    strange, wrong = Oddities(), dict[str, Message]()
     for message, answer in zip(messages, answers, strict=True):
-        if answer == "unknown":
-            found[message.gateway, "a message, though no such gateway is known"] += 1
-        elif answer == "again" and message.epoch < epochs[message.gateway]:
-            found[message.gateway, "a message of an epoch that is over"] += 1
-        elif answer == "take":
-            epochs[message.gateway] = message.epoch
-            found[message.gateway, "a line that is no frame"] += len(message.lines) - len(frames_in(message.lines))
-    return +found
-
-
-def remedy_of(gateway: str, what: str) -> str:
-    """What to do about what a gateway says, where that isn't just left."""
-    return ANEW.format(gateway) if what == SET_BACK else ""
-
-
-def put_oddities(database: Database, found: Mapping[tuple[str, str], int]) -> None:
-    """Counts them on, and says once what is new."""
-    for (gateway, what), times in sorted(found.items()):
-        count = store.one(database, "insert into oddity values (%s, %s, %s, %s) on conflict (gateway, what) do update set times ="
-                                    " oddity.times + excluded.times, last_made = excluded.last_made returning times",
-                          (gateway, what, times, time.time()))
-        if count == times:
-            log.warning("%s sent %s, which is left (`wmbus-fleet status` counts them)%s", gateway, what, remedy_of(gateway, what))
+        if answer == "take":
+            last[message.gateway].take(message)
+        elif answer == "again":
+            it = last[message.gateway]
+            differs = it.differs(message)
+            if differs and (message.gateway not in wrong or wrong[message.gateway].number > message.number):
+                wrong[message.gateway] = message
+            if it.is_later(message):
+                strange[message.gateway, SET_BACK] += 1
+            elif differs:
+                strange[message.gateway, DIFFERS] += 1
+    return strange, wrong
 
 
 def put_lines(config: Config, database: Database, taken: Sequence[Message]) -> int:
-    """Puts the lines of messages into the inbox in their order, each with the meter that it is for."""
+    """Puts the lines of messages into the inbox in their order, each with the meter that it is for; how many these are."""
     lines = [(message, place, text) for message in taken for place, text in frames_in(message.lines)]
     addresses = addresses_of(words_of(config.programs.address_list), [text for _, _, text in lines])
     rows = [(address, it.gateway, it.epoch, it.number, place, text) for address, (it, place, text) in zip(addresses, lines, strict=True)]
-    store.copy_rows(database, "inbox (address, gateway, epoch, message, place, text)", rows)
+    kept = without_strangers(database, rows)
+    store.copy_rows(database, "inbox (address, gateway, epoch, message, place, text)", kept)
     return len(rows)
 
 
-def put_fences(database: Database, fences: Mapping[str, Fence], until: Mapping[str, int]) -> None:
-    """How far each gateway's messages are taken, and until when what it heard."""
-    rows = [(name, epoch, number, until[name]) for name, (epoch, number) in fences.items()]
-    if rows:
-        # (what comes behind its end of a gateway that was taken away holds up no tick)
-        database.execute("update gateway g set epoch = f.epoch, number = f.number, seen = now(), until = case when g.gone is null then"
-                         " f.until else g.until end from"
-                         " unnest(%s::text[], %s::bigint[], %s::bigint[], %s::bigint[]) as f (name, epoch, number, until)"
-                         " where g.name = f.name", tuple(list(column) for column in zip(*rows, strict=True)))
+def without_strangers(database: Database, rows: Sequence[tuple[Any, ...]]) -> Sequence[tuple[Any, ...]]:
+    """Rows of the inbox but for those of meters that aren't known, where a gateway has many: these are counted."""
+    if max(Counter(gateway for _, gateway, *_ in rows).values(), default=0) <= STRANGERS:
+        return rows
+    found = database.execute("select address from meter where address = any(%s)", (sorted({row[0] for row in rows}),)).fetchall()
+    known, strange = {address for (address,) in found}, Counter[str]()
+    kept = []
+    for row in rows:
+        if row[0] not in known:
+            strange[row[1]] += 1
+            if strange[row[1]] > STRANGERS:
+                continue
+        kept.append(row)
+    for gateway, count in sorted(strange.items()):
+        if count > STRANGERS:
+            database.execute("update gateway set strangers = strangers + %s where name = %s", (count - STRANGERS, gateway))
+    return kept
+
+
+class Area:
+    """An area's messages, over a channel of their own, which may end alone."""
+
+    def __init__(self, name: str) -> None:
+        self.name = name
+        self.channel: Any = None
+        self.ended_at = -PAUSE
+        self.trouble = ""
+
+    def is_open(self) -> bool:
+        """Whether messages come."""
+        return self.channel is not None and bool(self.channel.is_open)
 
 
 class Consuming:
     """Messages of some areas, as they come over a connection."""
 
-    def __init__(self, intake: Intake, connection: Any, areas: Sequence[str]) -> None:
+    def __init__(self, intake: Intake, connection: Any, areas: Sequence[str], asking: Asking | None = None) -> None:
         self.intake, self.connection = intake, connection
-        self.channel = broker.opened(connection)
+        self.asking = asking or Asking(intake.config)
         # of each area the broker gives so many before some are acknowledged: all together have no more in hand than fit into memory
         self.share = max(1, PREFETCH // max(1, len(areas)))
-        self.channel.basic_qos(prefetch_count=self.share)
-        # of each message its tag, its queue, its gateway, and what it is, where it is in form
-        self.held: list[tuple[int, str, str, Message | None]] = []
+        self.held: list[Held] = []
         self.since = 0.0
-        for area in areas:
-            broker.declare_area(self.channel, area)
-        for area in areas:
-            broker.consume(self.channel, broker.area_queue(area), self._hold)
+        self.areas = {name: Area(name) for name in areas}
+        self._open()
 
-    def _hold(self, _channel: Any, method: Any, _properties: Any, body: bytes) -> None:
+    def _open(self) -> None:
+        """Has messages of each area come that doesn't give any; what is wrong with one is no other one's trouble."""
+        for area in self.areas.values():
+            if area.is_open() or time.monotonic() < area.ended_at + PAUSE:
+                continue
+            # (they come again)
+            self.held = [it for it in self.held if it.area != area.name]
+            area.ended_at = time.monotonic()
+            try:
+                self._consume(area)
+                area.trouble = ""
+            except broker.CHANNEL_FAULTS as fault:
+                area.channel = None
+                if (told := store.told_of(fault)) != area.trouble:
+                    log.error("intake: area %s: %s", area.name, told)
+                area.trouble = told
+
+    def _consume(self, area: Area) -> None:
+        """Has an area's messages come."""
+        area.channel = broker.opened(self.connection)
+        area.channel.basic_qos(prefetch_count=self.share)
+        broker.declare_area(area.channel, area.name)
+        channel = area.channel
+
+        def gone(_told: Any) -> None:
+            log.error("intake: area %s: its queue went", area.name)
+            area.channel = None
+            self.connection.add_callback_threadsafe(lambda: channel.close() if channel.is_open else None)
+        broker.consume(channel, broker.area_queue(area.name), self._hold, gone)
+
+    def _hold(self, _channel: Any, method: Any, properties: Any, body: bytes) -> None:
         """A message is in hand."""
         if not self.held:
             self.since = time.monotonic()
-        message = read_lines(method.routing_key, body)
-        self.held.append((method.delivery_tag, method.consumer_tag, gateway_in(method.routing_key), message))
+        area = method.consumer_tag.removeprefix(broker.area_queue(""))
+        message, what = read_lines(method.routing_key, body), FORM
+        if getattr(properties, "unread", ""):
+            message, what = None, HEADERS
+        elif area_in(method.routing_key) != area:
+            # (by a header CC or BCC, for which the broker judges no right)
+            message, what = None, ELSEWHERE
+        self.held.append(Held(area, method.delivery_tag, gateway_in(method.routing_key), message, what))
 
     def turn(self) -> int:
         """A batch, once it is due; how many messages it had."""
-        is_due = time.monotonic() - self.since >= self.intake.config.interval or self._is_full()
+        self._open()
+        is_full = self._is_full()
+        is_due = time.monotonic() - self.since >= self.intake.config.interval or is_full
         self.connection.process_data_events(0 if self.held and is_due else LOOK)
+        self.asking.turn()
         if not self.held or not is_due:
             return 0
-        count = self._count()
-        tag, batch = self.held[count - 1][0], self.held[:count]
-        asked = self.intake.take([it for *_, it in batch if it], [name for *_, name, it in batch if it is None])
-        del self.held[:count]
-        acknowledge(self.channel, tag)
+        batch = next_batch(self.held, PREFETCH, MOST, is_full, self.share // 2)
+        asked = self._take(batch.taken, [it.message for it in batch.left if it.message])
+        self._done([*batch.taken, *batch.left])
         for it in asked:
-            ask(self.channel, it)
-        return count
+            self.asking.ask(it)
+        return len(batch.taken) + len(batch.left)
+
+    def _take(self, batch: Sequence[Held], left: Sequence[Message] = ()) -> list[Again | Begin]:
+        """Takes a batch; where that fails, and not for what the machine or the servers lack, its halves, until the message is found at which
+        it does: that one is left, and counted."""
+        try:
+            return self.intake.take([it.message for it in batch if it.message], [(it.gateway, it.what) for it in batch if not it.message], left)
+        except Exception as fault:
+            if isinstance(fault, (psycopg.OperationalError, psycopg.InterfaceError, Trouble, OSError)) or is_lack(fault):
+                raise
+            if len(batch) > 1:
+                half = len(batch) // 2
+                return [*self._take(batch[:half], left), *self._take(batch[half:])]
+            log.error("intake: it fails at a message of %s: %s", batch[0].gateway, store.told_of(fault))
+            return self.intake.take([], [(batch[0].gateway, FAILING)], left)
+
+    def _done(self, done: Sequence[Held]) -> None:
+        """The broker needn't keep these messages; where all of an area are done it is told of the last one alone."""
+        tags = {(it.area, it.tag) for it in done}
+        self.held = [it for it in self.held if (it.area, it.tag) not in tags]
+        for name, area in self.areas.items():
+            own = [it.tag for it in done if it.area == name]
+            first = min((it.tag for it in self.held if it.area == name), default=None)
+            if not own or not area.is_open():
+                continue
+            front = [tag for tag in own if first is None or tag < first]
+            if front:
+                acknowledge(area.channel, max(front))
+            for tag in own:
+                if first is not None and tag > first:
+                    area.channel.basic_ack(tag)
 
     def _is_full(self) -> bool:
         """Whether a transaction's lines are in hand, or all that the broker gives of an area."""
-        of_queues = Counter(queue for _, queue, *_ in self.held)
-        return sum(len(it.lines) for *_, it in self.held if it) >= MOST or max(of_queues.values(), default=0) >= self.share
-
-    def _count(self) -> int:
-        """How many messages the batch has, one at least: no more messages and lines than one transaction takes. (Of more areas than that the
-        broker gives one each.)"""
-        lines = 0
-        for count, (*_, message) in enumerate(self.held):
-            lines += len(message.lines) if message else 0
-            if count and lines > MOST or count == PREFETCH:
-                return count
-        return len(self.held)
+        of_areas = Counter(it.area for it in self.held)
+        return sum(it.lines() for it in self.held) >= MOST or max(of_areas.values(), default=0) >= self.share
 
 
 def acknowledge(channel: Any, tag: int) -> None:
     """The broker needn't keep the messages up to this one."""
     channel.basic_ack(tag, multiple=True)
-
-
-def ask(channel: Any, asked: Again) -> None:
-    """Asks a gateway to send again."""
-    try:
-        broker.publish(channel, "", broker.gateway_queue(asked.gateway), again_body(asked), broker.ASKED_MILLISECONDS)
-    except broker.NoQueue:
-        log.warning("%s: it has no queue yet, and can't be asked to send again", asked.gateway)
 
 
 def known_areas(database: Database, areas: Sequence[str]) -> Sequence[str]:
@@ -237,9 +298,12 @@ def run(config: Config, areas: Sequence[str], name: str, ending: Ending) -> None
     trouble = ""
     while not ending.is_set():
         try:
-            with store.connect(config.database) as database, broker.connected(config.broker) as connection:
+            with ExitStack() as held:
+                database = held.enter_context(store.connect(config.database))
+                connection = held.enter_context(broker.connected(config.broker))
+                asking = held.enter_context(Asking(config))
                 known = known_areas(database, areas)
-                consuming = Consuming(Intake(config, database, name), connection, known)
+                consuming = Consuming(Intake(config, database, name), connection, known, asking)
                 # (of all also those that were made since, among which what it has in hand is shared out anew)
                 while not ending.is_set() and known == known_areas(database, areas):
                     if consuming.turn():

@@ -18,7 +18,7 @@ from wmbus_service.metrics import COUNTERS as OF_SESSIONS
 from wmbus_service.metrics import serve_figures
 from wmbus_service.trouble import Trouble
 
-from . import broker, store
+from . import broker, store, sums
 from .config import Config, Metrics
 from .status import AGES, AHEAD
 from .view import looking
@@ -33,6 +33,7 @@ COUNTERS = {name: words for name, words in OF_SESSIONS.items() if name != "lines
     "lines": "lines of gateways that were taken", "heard": "lines of gateways that a session heard",
     "messages": "messages of gateways that came", "take": "messages that were taken", "again": "messages that had come before",
     "ask": "messages behind a gap", "asked": "questions to gateways", "unknown": "messages of gateways that aren't known",
+    "left": "messages that were left, since their gateways sent more than their part while others waited",
     "ended": "runs of the sessions' program that were ended from outside, or had no memory",
 }
 GAUGES = {
@@ -54,12 +55,14 @@ LABELLED = {
     "area_meters": ("meters in service, by the gateway that heard them last", "area"),
     "area_refusals": ("refused lines, but for repeats", "area"),
     "queue_messages": ("messages of an area that wait for an intake", "area"), "workers": ("processes that are connected", "part"),
+    "gateway_lines_per_second": ("lines a second of a gateway, as in the last minute", "gateway"),
+    "gateway_strangers": ("lines of a gateway that were counted and not kept, since it heard too many of meters that aren't known", "gateway"),
     "commands": ("commands", "state"), "table_bytes": ("size of a table with its indexes", "table"),
 }
 TABLES = ("meter", "line", "reading", "outbox", "command", "refusal")
 QUERIES = {
     "downlinks_missed": "select count(*) from outbox where missed is not null", "aside_lines": "select count(*) from aside",
-    "gaps": "select count(*) from missing", "ticks_late": "select count from late",
+    "gaps": "select count(*) from missing",
     "gateways_clock_seconds": AHEAD, "downlinks_waiting_seconds": AGES["downlinks"], "commands_open_seconds": AGES["commands"],
 }
 NAMES = {"lag_seconds": "lag", "inbox_lines": "inbox", "meters": "meters", "meters_silent": "silent_meters",
@@ -87,10 +90,14 @@ def take(config: Config) -> Taken:
         taken.counters = {name: float(told.get(name, 0)) for name in COUNTERS}
         taken.gauges = {name: float(told[key]) for name, key in NAMES.items()}
         taken.gauges |= {name: float(database.execute(query).fetchall()[0][0]) for name, query in QUERIES.items()}
+        taken.gauges["ticks_late"] = float(sums.of(database, "late", taken.moment)[0]["count"])
         areas = looking.areas(database, taken.moment)
         for name, key in (("gateways", "gateways"), ("gateways_silent", "silent_gateways"), ("area_meters", "meters"),
                           ("area_refusals", "refused")):
             taken.labelled[name] = {row["name"]: float(row[key]) for row in areas}
+        rows = database.execute("select name, rate, strangers from gateway where not gone").fetchall()
+        taken.labelled["gateway_lines_per_second"] = _floats((name, rate) for name, rate, _ in rows)
+        taken.labelled["gateway_strangers"] = _floats((name, count) for name, _, count in rows)
         taken.labelled["workers"] = {part: float(count) for part, count in looking.workers(database).items()}
         taken.labelled["commands"] = _floats(database.execute("select state, count(*) from command group by state").fetchall())
         taken.labelled["table_bytes"] = _floats(

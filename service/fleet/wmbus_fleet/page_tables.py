@@ -1,5 +1,5 @@
 """What the page reads of the fleet's database: views under the names that the service's tables have, so that the same questions are asked
-of both. None of them has a key, or what was made with one; any role of the server may read them, and by itself nothing else."""
+of both. None of them has a key, or what was made with one; a role that `allow` names may read them, and by itself nothing else."""
 from __future__ import annotations
 
 from .schema import SHARDS
@@ -22,6 +22,9 @@ RECORD = """create or replace view page.record as
     from public.reading r cross join lateral json_array_elements(r.records) with ordinality as e (it, place)
     where e.it ->> 'quantity' is not null;"""
 
+# how many lines a second a gateway sends, as in the last minute
+RATE = "rate * exp(least(0, extract(epoch from coalesce(seen, now()) - now())) / 60)"
+
 METER = "create or replace view page.meter as select address, name, gateway as receiver, gateway, heard, retired from public.meter;"
 
 VIEWS = f"""
@@ -32,7 +35,7 @@ create view page.reading as select line as id, line, address, counter, moment, g
 -- no day's last value outlives its reading here
 create view page.daily as select ''::text as address, ''::text as day, ''::text as quantity, ''::text as unit, 0 as exponent,
     ''::text as value, ''::text as function, 0 as storage, 0 as tariff, 0 as subunit where false;
-create view page.refusal as select address, reason, words, times, last_made from public.refusal;
+create view page.refusal as select address, reason, words, times, last_made, gateway from public.refusal;
 create view page.stranger as select address, times, gateway as receiver, last_made from public.stranger;
 create view page.command as
     select place as rowid, id, address, kind, case kind when 'send' then payload else '' end as payload, state, number, tries, reason, wish,
@@ -42,13 +45,13 @@ create view page.aside as select id, gateway as receiver, said, made from public
 create view page.total as select name, sum(value)::bigint as value from public.total group by name;
 create view page.area as select name from public.area;
 create view page.gateway as select name, area, epoch, number, until, extract(epoch from seen)::double precision as seen,
-    gone is not null as gone from public.gateway;
+    gone is not null as gone, lines, strangers, {RATE} as rate from public.gateway;
 create view page.missing as select gateway, epoch, number, made from public.missing;
 create view page.inbox as select gateway from public.inbox;
 create view page.waiting as {_WAITING};
 {LATE}
 create view page.worker as select application_name as name, count(*) as count from pg_stat_activity
     where datname = current_database() and application_name like 'wmbus %' group by application_name;
-grant usage on schema page to public;
-grant select on all tables in schema page to public;
+create view page.kept as select name, value, made from public.kept;
+create view page.release as select value::integer as version from public.setting where name = 'version';
 """

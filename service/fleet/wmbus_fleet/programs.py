@@ -12,6 +12,13 @@ from .messages import Message
 # a gateway's last message that was taken: its epoch, and its number there
 Fence = tuple[int, int]
 NONE = "-"
+# the programs' own word for it (docs/FORMATS.md, "Exit statuses")
+NO_MEMORY = 10
+
+
+def is_lack(fault: Exception) -> bool:
+    """Whether the machine is why a program failed, whatever the lines are."""
+    return isinstance(fault, ProgramFailed) and (fault.is_ended() or fault.status == NO_MEMORY)
 
 
 @dataclass(frozen=True)

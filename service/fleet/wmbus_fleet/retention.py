@@ -10,7 +10,7 @@ from .store import Database
 
 log = logging.getLogger("wmbus")
 
-HOUR, DAY, STEP = 3600, 86_400.0, 5000
+HOUR, DAY, STEP, KEYS = 3600, 86_400.0, 5000, 100_000
 MOST_STRANGERS = MOST_MISSING = MOST_ASIDE = 10_000
 # of each table its key, when a row was made, for which setting's days it is kept, which of the rows are looked at, and which of these are
 # young in another way: a command that something may still become of and a downlink that isn't out stay however old they are, and a reading
@@ -19,7 +19,7 @@ KEPT = (
     ("line", "number", "made", "lines", "true", "false"),
     ("reading", "line", "made", "readings", "true", "it.moment between %(before)s and %(now)s + 86400"),
     ("command", "place", "changed", "commands",
-     "state in ('confirmed', 'expired', 'cancelled', 'refused', 'done') and wish is null", "false"),
+     "state in ('confirmed', 'expired', 'cancelled', 'refused', 'done', 'unsure') and wish is null", "false"),
     ("outbox", "id", "made", "commands", "(sent is not null or missed is not null)", "false"),
 )
 # the moment that most of the gateways tell that were heard lately
@@ -38,6 +38,8 @@ class Retention:
     def let_go(self, now: float) -> bool:
         """One step; whether there is more. A line that somebody else lets go is passed over."""
         self._let_go_few()
+        if self._empty_keys():
+            return True
         told = store.one(self.database, TOLD)
         if told is None:
             # (as just behind a moment at which the clock was set; where no gateway is heard nothing new comes either)
@@ -49,6 +51,22 @@ class Retention:
             if days:
                 gone += self._step(table, key, made, which, young, min(now, float(told)), days)
         return gone > 0
+
+    def _empty_keys(self) -> bool:
+        """Empties the second keys that an earlier release kept in lines, some lines a step, from the last one of that release backwards;
+        whether there are more."""
+        with store.transaction(self.database):
+            until = self.database.execute("select value::bigint from setting where name = 'keys_until' for update skip locked").fetchone()
+            if until is None:
+                return False
+            self.database.execute("update line set text = split_part(text, ' ', 1) || ' ' || split_part(text, ' ', 2) where number > %s"
+                                  " and number <= %s and gateway is null and text like 'K %% %%'", (until[0] - KEYS, until[0]))
+            first = store.one(self.database, "select coalesce(min(number), 0) from line")
+            if until[0] - KEYS < first:
+                self.database.execute("delete from setting where name = 'keys_until'")
+                return False
+            store.set_setting(self.database, "keys_until", str(until[0] - KEYS))
+        return True
 
     def _step(self, table: str, key: str, made: str, which: str, young: str, now: float, days: int) -> int:
         """Looks at the first rows of a table; how many of them go."""

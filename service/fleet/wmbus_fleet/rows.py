@@ -7,6 +7,7 @@ from collections.abc import Sequence
 from typing import Any
 
 from wmbus_service.events import Event
+from wmbus_service.merging import moment_in
 from wmbus_service.steps import Told
 
 from .arrived import Arrived
@@ -24,11 +25,11 @@ class Rows:
         self.counts: Counter[str] = Counter()
         self.lines: list[tuple[Any, ...]] = []
         self.readings: list[tuple[Any, ...]] = []
-        self.refusals: dict[tuple[str, str], tuple[str, int, int]] = {}
+        self.refusals: dict[tuple[str, str], tuple[str, int, int, str | None]] = {}
         self.strangers: dict[str, tuple[int, str | None]] = {}
         self.downlinks: list[tuple[str, str, int, str, int]] = []
         self.changes: list[Change] = []
-        # the gateway that heard a meter last, the meters with readings, and those whose windows were opened or closed last
+        # the gateway by which a meter's last reading came, the meters with readings, and those whose windows were opened or closed last
         self.gateways: dict[str, str] = {}
         self.read: set[str] = set()
         self.opened: set[str] = set()
@@ -53,13 +54,10 @@ class Rows:
         it = arrived_of(event)
         self.counts["heard" if it else "orders"] += 1
         place = (it.receiver, it.epoch, it.message, it.behind) if it else (None, None, None, None)
-        self.lines.append((number, said.get("address", "-"), *place, event.text, event.due, self.now))
+        self.lines.append((number, said.get("address", "-"), *place, without_key(event), event.due, self.now))
 
     def _step(self, number: int, event: Event, said: dict[str, Any]) -> None:
         """A meter's step."""
-        it = arrived_of(event)
-        if it:
-            self.gateways[said["address"]] = it.receiver
         self.counts[said["outcome"]] += 1
         write = {"stored": self._stored, "queued": self._queued, "cancelled": self._cancelled, "refused": self._refused,
                  "rekeyed": self._rekeyed, "ticked": self._ticked}.get(said["outcome"])
@@ -70,11 +68,16 @@ class Rows:
         """A reading, the command that it confirms, the downlink that is due."""
         it = arrived_of(event)
         gateway = it.receiver if it else None
+        if gateway:
+            # (what nobody authenticated moves no meter to another gateway)
+            self.gateways[said["address"]] = gateway
         self.read.add(said["address"])
         self.readings.append((number, said["address"], gateway, said["counter"], said["at"], said["payload"], said["fault"],
                               said["more"], COMPACT(said["records"]), self.now))
         if said["confirmed"] is not None:
-            self._change(said["address"], said["confirmed"], "confirmed")
+            # (a copy of an earlier response may come late, by another gateway: what was heard before the downlink went out confirms nothing)
+            self.changes.append({"address": said["address"], "number": said["confirmed"], "state": "confirmed",
+                                 "heard": min(moment_in(event.text, 0) or self.now, self.now)})
         sent = said["sent"]
         if sent:
             self.opened.add(said["address"])
@@ -105,7 +108,9 @@ class Rows:
         """A refusal, counted by its reason."""
         words = " ".join([said["reason"], *(str(value) for value in said["values"])])
         key = said["address"], said["reason"]
-        self.refusals[key] = words, self.refusals.get(key, ("", 0, 0))[1] + 1, number
+        it = arrived_of(event)
+        _, times, _, before = self.refusals.get(key, ("", 0, 0, None))
+        self.refusals[key] = words, times + 1, number, it.receiver if it else before
         if event.command and said["event"] == "cancel":
             # it was confirmed or given up before
             self.changes.append({"id": event.command})
@@ -126,6 +131,11 @@ class Rows:
             self._refuse(event.command, "the meter is unknown")
         it = arrived_of(event)
         self.strangers[said["address"]] = self.strangers.get(said["address"], (0, None))[0] + 1, it.receiver if it else None
+
+
+def without_key(event: Event) -> str:
+    """The text of a line as it is kept: of a new second key its meter alone."""
+    return " ".join(event.text.split(" ")[:2]) if event.command and event.text.startswith("K ") else event.text
 
 
 def arrived_of(event: Event) -> Arrived | None:

@@ -1,17 +1,22 @@
 """The fleet's tables in PostgreSQL."""
 from __future__ import annotations
 
-VERSION = 3
+VERSION = 4
 SHARDS = 16
 
 TABLES = f"""
 create table setting (name text primary key, value text not null);
 create table area (name text primary key);
 -- the fence: a gateway's last message that was taken, until when all that it heard is taken, by its clock; when it was asked to send again,
--- when it was heard last, and when it was taken away
+-- when it was heard last, and when it was taken away; digests of its last messages, the last one last; how many lines were taken of it, how
+-- many a second as of late, and how many of meters that aren't known were counted and not kept
 create table gateway (
     name text primary key, area text not null references area, epoch bigint not null default 0, number bigint not null default 0,
-    until bigint not null default 0, asked timestamptz, seen timestamptz, gone timestamptz);
+    until bigint not null default 0, asked timestamptz, seen timestamptz, gone timestamptz, digests bigint[] not null default '{{}}',
+    lines bigint not null default 0, rate double precision not null default 0, strangers bigint not null default 0);
+-- the last message that was taken of each earlier epoch of a gateway
+create table ended (gateway text not null, epoch bigint not null, number bigint not null, made double precision not null,
+    primary key (gateway, epoch));
 -- a meter's shard, whose sessions are one after the other
 create function shard_of(address text) returns integer immutable language sql
     return ('x' || substr(md5(address), 1, 2))::bit(8)::integer & {SHARDS - 1};
@@ -38,11 +43,12 @@ create table reading (
 create index reading_of_meter on reading (address, moment);
 create table refusal (
     address text, reason text, words text not null, times bigint not null, last_line bigint not null, last_made double precision not null,
-    primary key (address, reason));
+    gateway text, primary key (address, reason));
 -- what a gateway says and nobody can take, by its name
 create table oddity (gateway text, what text, times bigint not null, last_made double precision not null, primary key (gateway, what));
 create table stranger (address text primary key, times bigint not null, gateway text, last_made double precision not null);
--- what an operator asked for: state is waiting, queued, sent, confirmed, expired, cancelled, refused or done; number is the program's id
+-- what an operator asked for: state is waiting, queued, sent, confirmed, unsure, expired, cancelled, refused or done; number is
+-- the program's id
 create table command (
     place bigint generated always as identity primary key, id text not null unique, address text not null, kind text not null,
     payload text not null, state text not null default 'waiting', number bigint, tries integer not null default 0, reason text, wish text,
@@ -59,6 +65,8 @@ create table missing (gateway text not null, epoch bigint not null, number bigin
 -- lines with which the program ends otherwise than it has to
 create table aside (id bigint generated always as identity primary key, gateway text, text text not null, said text not null,
     made double precision not null);
+-- sums over all meters of a large fleet, and when they were made
+create table kept (name text primary key, value json not null, made double precision not null);
 create table total (worker text, name text, value bigint not null, primary key (worker, name));
 """
 
@@ -77,5 +85,22 @@ alter table meter add column heard double precision;
 update meter m set heard = (select r.made from reading r where r.address = m.address order by r.moment desc limit 1);
 """
 
-# what makes of version 2 this one (no row is written anew)
-THIRD = "alter table meter add column retired double precision;"
+# what makes of version 2 the third one (no row is written anew)
+THIRD = "alter table meter add column retired double precision;\n"
+
+
+# what makes of version 3 this one
+FOURTH = """
+alter table gateway add column digests bigint[] not null default '{}', add column lines bigint not null default 0,
+    add column rate double precision not null default 0, add column strangers bigint not null default 0;
+create table ended (gateway text not null, epoch bigint not null, number bigint not null, made double precision not null,
+    primary key (gateway, epoch));
+insert into ended select gateway, epoch, max(number), max(made) from missing group by gateway, epoch;
+alter table refusal add column gateway text;
+update refusal r set gateway = m.gateway from meter m where m.address = r.address;
+create table kept (name text primary key, value json not null, made double precision not null);
+insert into setting select 'keys_until', max(number)::text from line having max(number) is not null;
+"""
+
+# of each version what makes of it the next one
+CHANGES = (SECOND, THIRD, FOURTH)

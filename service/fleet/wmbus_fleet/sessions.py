@@ -15,13 +15,15 @@ from wmbus_service.merging import moment_in
 from wmbus_service.steps import ProgramFailed, Told, run_steps, state_text
 from wmbus_service.trouble import Trouble
 
-from . import store
+from . import broker, mark, store
 from .arrived import Arrived, arrived
 from .config import Config, Ticks
+from .programs import is_lack
 from .retention import Retention
 from .rows import arrived_of
 from .schema import SHARDS
 from .store import Database
+from .sums import Keeping
 from .writing import write
 
 log = logging.getLogger("wmbus")
@@ -29,8 +31,6 @@ log = logging.getLogger("wmbus")
 # a state has 4,096 meters at most, and each line may name another one
 MOST = 4000
 PAUSE, LET_GO = 0.5, 600.0
-# the program's own word for it (docs/FORMATS.md, "Exit statuses")
-NO_MEMORY = 10
 
 
 class Sessions:
@@ -140,11 +140,6 @@ class Sessions:
                 raise
             raise Trouble(self.config.programs.steps, f"the program fails over what is known of the meter, without any line: {failed}",
                           "look at its release and at the meter's block") from None
-
-
-def is_lack(failed: ProgramFailed) -> bool:
-    """Whether the machine is why the program failed, whatever the lines are."""
-    return failed.is_ended() or failed.status == NO_MEMORY
 
 
 def lock(database: Database, shard: int) -> bool:
@@ -261,9 +256,12 @@ def set_aside(database: Database, event: Event, shard: int, said: str, now: floa
 def run(config: Config, ending: Ending) -> None:
     """Sessions without end; after trouble the same lines come again."""
     trouble = ""
+    Keeping(config.database, ending)
     while not ending.is_set():
         try:
             with store.connect(config.database) as database:
+                with broker.connected(config.broker) as connection:
+                    mark.judge(database, broker.opened(connection))
                 sessions, retention, let_go_at = Sessions(config, database), Retention(database, config.keep), time.monotonic()
                 while not ending.is_set():
                     count = sessions.turn(time.time())
@@ -273,7 +271,7 @@ def run(config: Config, ending: Ending) -> None:
                         let_go_at = time.monotonic() + LET_GO
                     trouble = ""
                     ending.wait(0 if is_behind else config.interval)
-        except (psycopg.Error, ProgramFailed, Trouble, OSError) as fault:
+        except (psycopg.Error, ProgramFailed, Trouble, *broker.FAULTS) as fault:
             told = f"sessions: {store.told_of(fault)}"
             if told != trouble:
                 log.error("%s", told)

@@ -8,31 +8,21 @@ from typing import Any
 
 from psycopg.rows import dict_row
 from wmbus_service.commands import OPEN
-from wmbus_service.page.looks import LATE, METER_SILENCE
-from wmbus_service.page.shared import REPEATS, counted
+from wmbus_service.page.shared import counted
 
-from . import store
-from .intake import remedy_of
-from .retiring import IS_HEARD, heard_words
+from . import store, sums
+from .oddities import remedy_of
+from .retiring import heard_words
 from .store import Database
+from .sums import LAST
 
-LAST, MOST = 10, 50
+MOST = 50
 SILENT = 600
+# a gateway that sends more lines a second is told of
+BUSY = 100
 
 
 IS_SILENT = f"g.seen is null or g.seen < now() - interval '{SILENT} seconds'"
-# of a meter that several gateways hear the copies are refused all the time, and nobody has to look at it
-IS_REPEAT = f"r.reason in ({', '.join(map(repr, sorted(REPEATS)))})"
-# of a meter m in service: it is heard, and its counter is below the last stored one (as the page of the service tells it)
-IS_SET_BACK = f"""m.retired is null and coalesce(m.heard, 0) < extract(epoch from now()) - {LATE}
-    and exists (select 1 from refusal r where r.address = m.address and r.reason = 'stale'
-    and r.last_made > greatest(coalesce(m.heard, 0) + {LATE}, extract(epoch from now()) - {METER_SILENCE})
-    and case when r.words ~ '^stale [0-9]+ [0-9]+$' then split_part(r.words, ' ', 2)::numeric < split_part(r.words, ' ', 3)::numeric end)"""
-# by the gateway that heard a meter last
-REFUSALS = """
-    select coalesce(g.area, '') as area, r.reason, sum(r.times)::bigint as times, count(*) as meters
-    from refusal r left join meter m using (address) left join gateway g on g.name = m.gateway
-    group by 1, 2 order by 1, 3 desc, 2"""
 # for how many seconds the oldest one of what waits does, also by the views of the page
 AGE = "select greatest(0, extract(epoch from now()) - min({}))::bigint from"
 AGES = {
@@ -52,23 +42,19 @@ PARTS = tuple(UNITS)
 
 def figures(database: Database) -> dict[str, Any]:
     """All that is told, as data."""
-    totals = "select name, sum(value)::bigint from total group by name order by name"
+    now, totals = time.time(), "select name, sum(value)::bigint from total group by name order by name"
     return {
         "totals": store.pairs(database, totals),
         "workers": store.pairs(database, "select name, count from page.worker order by name"),
         "areas": _rows(database, f"""
             select a.name, count(g.name) as gateways, count(g.name) filter (where {IS_SILENT}) as silent
             from area a left join gateway g on g.area = a.name and g.gone is null group by a.name order by a.name"""),
-        "refusals_by_area": _rows(database, REFUSALS),
-        **_rows(database, f"select count(*) as meters, count(retired) as retired, count(*) filter (where {IS_HEARD}) as retired_heard,"
-                          f" min(address) filter (where {IS_HEARD}) as retired_first from meter m")[0],
-        **_rows(database, f"select count(*) as set_back, min(address) as set_back_first from meter m where {IS_SET_BACK}")[0],
+        "refusals_by_area": sums.of(database, "refusals", now),
+        **sums.of(database, "meters", now)[0],
         "inbox": store.one(database, "select count(*) from inbox"),
         "downlinks_waiting": store.one(database, "select count(*) from outbox where sent is null and missed is null"),
         "ages": {name: store.one(database, query) for name, query in AGES.items()},
-        # (others wait for what a gateway that is cut off heard before they were due)
-        "ticks_late": store.one(database, "select count(*) from meter m left join gateway g on g.name = m.gateway where m.due < %s"
-                                          " and (g.name is null or g.until > m.due)", (time.time() - 60,)),
+        "ticks_late": sums.of(database, "late", now)[0]["count"],
         "commands": store.pairs(database, "select state, count(*) from command group by state order by state"),
         "ahead": store.one(database, AHEAD),
         "clocks": _rows(database, "select name, (until - extract(epoch from seen))::bigint as ahead from gateway where seen > now()"
@@ -80,11 +66,12 @@ def figures(database: Database) -> dict[str, Any]:
         "oddities": _rows(database, f"select gateway, what, times from oddity order by last_made desc limit {LAST}"),
         "gateways": _rows(database, "select name, area, epoch, number, extract(epoch from now() - seen)::bigint as age from gateway"
                                     f" g where gone is null and ({IS_SILENT}) order by name limit {MOST}"),
+        "busy": _rows(database, f"select name, area, rate, strangers from page.gateway where rate > {BUSY} or strangers > 0"
+                                f" order by rate desc, name limit {LAST}"),
         "missing": _rows(database, f"select gateway, epoch, number from missing order by made desc limit {LAST}"),
         "downlinks_missed": _rows(database, "select address, gateway, down, missed from outbox where missed is not null"
                                             f" order by id desc limit {LAST}"),
-        "refusals": _rows(database, f"select address, words, times from refusal r where not {IS_REPEAT} order by last_made desc"
-                                    f" limit {LAST}"),
+        "refusals": sums.of(database, "last", now),
         "strangers": _rows(database, "select address, times, gateway from stranger s where not exists"
                                      f" (select 1 from meter m where m.address = s.address) order by times desc limit {LAST}"),
         "aside": _rows(database, f"select id, gateway, text, said from aside order by id desc limit {LAST}"),
@@ -129,6 +116,9 @@ def in_words(told: dict[str, Any]) -> Iterator[str]:
         yield f"gateway {it['name']} was asked for message {it['number']} of epoch {it['epoch']} and hasn't sent it"
     for it in told["oddities"]:
         yield f"{it['gateway']} sent {it['times']} times {it['what']}, which is left{remedy_of(it['gateway'], it['what'])}"
+    for it in told["busy"]:
+        yield (f"gateway {it['name']} in {it['area']} sends {it['rate']:.1f} lines a second"
+               + (f"; {it['strangers']} lines of meters that aren't known were counted and not kept" if it["strangers"] else ""))
     for it in told["missing"]:
         yield f"gateway {it['gateway']} began a new epoch behind message {it['number']} of {it['epoch']}: its later ones may be gone"
     for it in told["downlinks_missed"]:
@@ -157,9 +147,9 @@ def status(database: Database, is_json: bool) -> str:
 
 def gateway_words(database: Database) -> Iterator[str]:
     """Each gateway, and when it was heard."""
-    for name, area, epoch, number, age, is_gone in database.execute(
-            "select name, area, epoch, number, extract(epoch from now() - seen)::bigint, gone is not null from gateway order by name"):
-        heard = "never heard" if age is None else f"message {number} of {epoch}, {age} s ago"
+    for name, area, epoch, number, age, is_gone, rate in database.execute(
+            "select name, area, epoch, number, (extract(epoch from now()) - seen)::bigint, gone, rate from page.gateway order by name"):
+        heard = "never heard" if age is None else f"message {number} of {epoch}, {age} s ago, {rate:.1f} lines a second"
         yield f"gateway {name} in {area}: {'taken away, ' if is_gone else ''}{heard}"
 
 

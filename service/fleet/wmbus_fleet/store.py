@@ -2,6 +2,7 @@
 from __future__ import annotations
 
 import json
+import secrets
 from collections.abc import Iterator, Mapping, Sequence
 from contextlib import contextmanager, suppress
 from typing import Any
@@ -13,8 +14,9 @@ from wmbus_service.trouble import Trouble
 from . import page_tables, schema
 
 Database = psycopg.Connection[tuple[Any, ...]]
-# advisory locks: of a shard's sessions, of the sender, of a change of the tables
-SESSIONS, SENDER, TABLES = 7101, 7102, 7103
+# advisory locks: of a shard's sessions, of the sender, of a change of the tables, of the mark, of the
+# sums
+SESSIONS, SENDER, TABLES, MARK, SUMS = 7101, 7102, 7103, 7104, 7105
 # a server that says nothing for so long is gone, and so is a worker that its server hears nothing of, or that stands still in the middle of
 # a transaction: what it locks is another one's then, and its own commit fails (a program may take 60 seconds of a transaction)
 ALIVE = {"keepalives_idle": 10, "keepalives_interval": 5, "keepalives_count": 4, "tcp_user_timeout": 30_000}
@@ -46,6 +48,7 @@ def told_of(fault: Exception) -> str:
 
 def init(words: str) -> None:
     """Makes the tables, or of those of an earlier release this one's, all in one transaction."""
+    from . import allowing
     with psycopg.connect(words, autocommit=True, connect_timeout=5) as database:
         with transaction(database):
             database.execute("select pg_advisory_xact_lock(%s, 0)", (TABLES,))
@@ -53,14 +56,14 @@ def init(words: str) -> None:
             if version is None:
                 look_at_encoding(database)
                 database.execute(schema.TABLES + schema.INBOXES + page_tables.VIEWS)
-            elif version == 1:
-                database.execute(schema.SECOND + schema.THIRD + page_tables.VIEWS)
-            elif version == 2:
-                # (its first releases counted ticks that wait too, and showed what meters send of unknown quantities)
-                database.execute(schema.THIRD + page_tables.METER + page_tables.LATE + page_tables.RECORD)
             elif version != schema.VERSION:
-                raise _of_another(version)
+                if not 0 < version < schema.VERSION:
+                    raise _of_another(version)
+                # (all that the page asks is made anew; of the first version there is nothing yet)
+                database.execute("".join(["drop schema if exists page cascade;", *schema.CHANGES[version - 1:], page_tables.VIEWS]))
             set_setting(database, "version", str(schema.VERSION))
+            database.execute("insert into setting values ('fleet', %s) on conflict do nothing", (secrets.token_hex(8),))
+            allowing.allow_again(database)
 
 
 def look_at_encoding(database: Database) -> None:
@@ -80,8 +83,10 @@ def _of_another(version: int | None) -> Trouble:
 
 def _version(database: Database) -> int | None:
     """The version of the tables, where there are any."""
-    (found,) = _row(database.execute("select to_regclass('setting')"))
-    if found is None:
+    # (who needs no key reads no setting; of an earlier release there is no such view)
+    if one(database, "select to_regclass('page.release') is not null"):
+        return int(one(database, "select max(version) from page.release") or 0)
+    if one(database, "select to_regclass('setting') is null"):
         return None
     return int(setting(database, "version") or 0)
 

@@ -28,6 +28,11 @@ def write(database: Database, ticks: Ticks, shard: int, batch: Sequence[Event], 
     store.add_totals(database, f"shard {shard}", rows.counts)
 
 
+# a command is confirmed by what was heard once one of its downlinks was out, else nobody knows whether its meter had it
+IS_SURE = ("case when exists (select 1 from outbox o where o.address = command.address and o.command = command.number and o.sent <= %(heard)s"
+           " + 1) then 'confirmed' else 'unsure' end")
+
+
 def numbers_for(database: Database, count: int) -> list[int]:
     """The numbers of lines among all."""
     told = store.one(database, "select string_agg(nextval('line_number')::text, ' ') from generate_series(1, %s)", (count,))
@@ -41,7 +46,7 @@ def change_command(database: Database, change: Change, now: float) -> None:
         database.execute(f"update command set tries = tries + 1 where {wanted}", change)
         return
     database.execute(
-        "update command set state = coalesce(%(state)s, state), number = coalesce(%(given)s, number),"
+        f"update command set state = {IS_SURE if 'heard' in change else 'coalesce(%(state)s, state)'}, number = coalesce(%(given)s, number),"
         " reason = coalesce(%(reason)s, reason), payload = case when kind = 'rekey' and %(state)s = 'refused' then '' else"
         " coalesce(%(payload)s, payload) end, wish = null, changed = %(now)s"
         f" where {wanted}",
@@ -51,11 +56,13 @@ def change_command(database: Database, change: Change, now: float) -> None:
 def put_refusals(database: Database, rows: Rows) -> None:
     """Refusals by meter and reason, and meters that aren't known."""
     if rows.refusals:
-        put_all(database, "insert into refusal select address, reason, words, times, line, made from {} on conflict (address, reason)"
-                          " do update set words = excluded.words, times = refusal.times + excluded.times,"
-                          " last_line = excluded.last_line, last_made = excluded.last_made",
-                {"address": "text", "reason": "text", "words": "text", "times": "bigint", "line": "bigint", "made": "double precision"},
-                [(*key, words, times, line, rows.now) for key, (words, times, line) in rows.refusals.items()])
+        put_all(database, "insert into refusal select address, reason, words, times, line, made, gateway from {} on conflict"
+                          " (address, reason) do update set words = excluded.words, times = refusal.times + excluded.times,"
+                          " last_line = excluded.last_line, last_made = excluded.last_made,"
+                          " gateway = coalesce(excluded.gateway, refusal.gateway)",
+                {"address": "text", "reason": "text", "words": "text", "times": "bigint", "line": "bigint", "made": "double precision",
+                 "gateway": "text"},
+                [(*key, words, times, line, rows.now, gateway) for key, (words, times, line, gateway) in rows.refusals.items()])
     if rows.strangers:
         put_all(database, "insert into stranger select address, times, gateway, made from {} on conflict (address) do update"
                           " set times = stranger.times + excluded.times, gateway = excluded.gateway, last_made = excluded.last_made",

@@ -1,7 +1,6 @@
 """The page's addresses: HTML for people, the same as JSON under /api, readings as CSV."""
 from __future__ import annotations
 
-import ipaddress
 import logging
 import re
 import secrets
@@ -9,7 +8,6 @@ import time
 from collections.abc import Iterator
 from contextlib import closing
 from datetime import datetime, time as clock_time
-from hmac import digest
 from typing import Any
 
 from flask import (
@@ -23,9 +21,10 @@ from werkzeug.wrappers import Response as AnyResponse
 
 from ..asking import Database
 from ..config import Config
-from ..tool_modules import FOLDER
+from ..local import is_local
+from ..tool_modules import FOLDER, version
 from ..trouble import Trouble
-from . import periods, reading, views
+from . import periods, reading, tokens, views
 from .house import Door, HouseDoor, Retiring
 from .shared import counted, grouped, is_address, time_text, times, zone_text
 
@@ -56,6 +55,7 @@ WORDS = {
     404: "There is no such page, or no such meter.",
     405: "This address can't be asked in this way.",
     413: "What was sent is too long.",
+    429: "Too many wrong tokens came from this address: wait a minute.",
 }
 
 
@@ -94,14 +94,15 @@ def create_page(door: Door, token: str | None, is_elsewhere: bool) -> Flask:
     """The page over a store: what is shown of any."""
     app = Pages(__name__)
     app.config.update(DOOR=door, TOKEN=token, IS_ELSEWHERE=is_elsewhere, CLOCK=time.time, MAX_CONTENT_LENGTH=MOST_BYTES,
+                      ENTERED=tokens.Entered(ENTERED_SECONDS), WRONG=tokens.Wrong(),
                       SESSION_COOKIE_NAME="wmbus", PERMANENT_SESSION_LIFETIME=ENTERED_SECONDS,
                       SESSION_COOKIE_SAMESITE="Strict", SESSION_COOKIE_SECURE=is_elsewhere)
     app.session_interface = Sessions()
-    # (a new token ends all sessions)
-    app.secret_key = digest(token.encode(), b"sessions of the page", "sha256") if token else secrets.token_bytes(32)
+    # (a new start ends all sessions)
+    app.secret_key = secrets.token_bytes(32)
     app.jinja_options = {"trim_blocks": True, "lstrip_blocks": True}
     app.jinja_env.filters.update(moment=_moment_text, ago=_ago, grouped=grouped, counted=counted, times=times, html=Markup)
-    app.jinja_env.globals.update(zone=zone_text, may_write=may_write, has_token=lambda: token is not None, forms=_forms_word,
+    app.jinja_env.globals.update(zone=zone_text, version=version, may_write=may_write, may_read=lambda: not is_elsewhere or may_write(), has_token=lambda: token is not None, forms=_forms_word,
                                  new_ident=new_ident, spans=list(periods.SPANS), door=door, retires=isinstance(door, Retiring))
     app.register_blueprint(pages)
     from .forms import forms
@@ -114,14 +115,6 @@ def create_page(door: Door, token: str | None, is_elsewhere: bool) -> Flask:
     app.register_error_handler(door.faults, _database_fault)
     app.register_error_handler(Exception, _any_fault)
     return app
-
-
-def is_local(host: str) -> bool:
-    """Whether an address is this machine's own, which no other machine reaches."""
-    try:
-        return host == "localhost" or ipaddress.ip_address(host).is_loopback
-    except ValueError:
-        return False
 
 
 def config_now() -> tuple[Config, float]:
@@ -144,8 +137,7 @@ def door_of() -> Door:
 
 def may_write() -> bool:
     """Whether who asks has given the token, and not too long ago; each answer makes the cookie itself younger."""
-    given = session.get("entered")
-    return current_app.config["TOKEN"] is not None and given is not None and clock() - float(given) < ENTERED_SECONDS
+    return current_app.config["TOKEN"] is not None and bool(current_app.config["ENTERED"].is_in(session.get("entered"), clock()))
 
 
 def database() -> Database:
@@ -259,7 +251,7 @@ def common_style() -> Response:
 def overview() -> str:
     """What needs a person, then all meters."""
     config, now = config_now()
-    return render_template("overview.html", shows_retired=_shows_retired(), **views.overview(config, database(), now))
+    return render_template("overview.html", shows_retired=_shows_retired(), **views.overview(config, database(), now, _page_number()))
 
 
 def _shows_retired() -> bool:
@@ -278,7 +270,15 @@ def _meters() -> dict[str, Any]:
     asked = {name: text_asked(name) for name in ("q", "order")}
     if asked["order"] and asked["order"] not in views.ORDERS:
         raise Worded(f"An order is one of {', '.join(views.ORDERS)}.")
-    return views.meters_page(config, database(), now, asked, _shows_retired())
+    return views.meters_page(config, database(), now, asked, _shows_retired(), _page_number())
+
+
+def _page_number() -> int:
+    """Which page of many meters is asked for."""
+    text = request.args.get("page", "1")
+    if not re.fullmatch("[1-9][0-9]{0,5}", text, re.ASCII):
+        raise Worded("A page is a number from 1 on.")
+    return int(text)
 
 
 def text_asked(name: str) -> str:
@@ -325,7 +325,7 @@ def strangers() -> str:
 def api_overview() -> Response:
     """The overview as data."""
     config, now = config_now()
-    return jsonify(views.overview(config, database(), now))
+    return jsonify(views.overview(config, database(), now, _page_number()))
 
 
 @house.get("/api/meters")

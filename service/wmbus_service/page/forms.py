@@ -57,16 +57,20 @@ def enter() -> str:
 @forms.post("/enter")
 def entered() -> Response:
     """Takes the token."""
-    token = current_app.config["TOKEN"]
+    token, wrong, address = current_app.config["TOKEN"], current_app.config["WRONG"], request.remote_addr or "nowhere"
+    if wrong.has_to_wait(address, clock()):
+        abort(429)
     if token is None or not compare_digest(_field("token").encode(), token.encode()):
+        wrong.add(address, clock())
         raise Worded("This isn't the token, which stands in the file that the configuration names as page.token_file.", 403)
-    session["entered"], session.permanent = clock(), True
+    session["entered"], session.permanent = current_app.config["ENTERED"].enter(clock()), True
     return redirect("/", 303)
 
 
 @forms.post("/leave")
 def leave() -> Response:
-    """Forgets that the token was given."""
+    """Forgets that the token was given, for each copy of this session."""
+    current_app.config["ENTERED"].leave(session.get("entered"))
     session.clear()
     return redirect("/", 303)
 

@@ -85,7 +85,7 @@ class HouseDoor:
     def put_command(self, address: str, ident: str, payload: str, now: float) -> bool:
         """Takes a command; whether its id is new."""
         with self._writing() as database:
-            return put_command(database, ident, address, payload, now)
+            return put_command(database, ident, address, payload, now, "the page")
 
     def cancel_command(self, address: str, ident: str, now: float) -> str | None:
         """Cancels a meter's command; the state that it has, none where there is no such command."""

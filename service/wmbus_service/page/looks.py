@@ -9,7 +9,9 @@ from typing import Any
 from ..asking import Database
 from ..config import Config
 from ..service import is_locked, still_seconds
-from ..status import oldest_publication, waiting_bytes
+from ..spool import unread
+from ..status import PARTS, oldest_publication, waiting_bytes
+from ..troubles import troubles_of
 from .radios import DAY, HOUR, SILENCE, Radio, silence
 from .reading import Meter, rows_of, strangers
 from .shared import REPEATS, WRONG_KEY, counted, row_of, time_text, times, words_of_page
@@ -31,6 +33,7 @@ STATES = {
     "waiting": "waits for the next session", "queued": "waits until the meter listens", "sent": "sent, and not confirmed yet",
     "confirmed": "confirmed by the meter", "expired": "given up: it was sent three times without an answer", "cancelled": "cancelled",
     "refused": "refused", "done": "done",
+    "unsure": "unsure: the response that would confirm it was heard before its downlink went out",
 }
 
 
@@ -143,6 +146,11 @@ def _of_service(config: Config, database: Database, now: float) -> Iterator[Look
     elif still := still_seconds(config.folder, now):
         yield Look("bad", "stands still", "The service", "/receivers",
                    f"It runs, and has had no session for {counted(int(still // 60), 'minute', 'minutes')}. Its log says why.")
+    for told in troubles_of(config.folder):
+        yield Look("bad" if told.part != "MQTT" else "look", "trouble", f"The service: {PARTS.get(told.part, told.part)}", "/receivers",
+                   f"Since {time_text(int(told.since))}: {told.words}")
+    for words in unread(config.spool)[:10]:
+        yield Look("bad", "can't be read", "The spool", "/receivers", words)
     if waiting_bytes(config, database) > WAITING_BYTES:
         yield Look("look", "lags", "The service", "/receivers", "Many lines wait in the spool. Its log says whether sessions stand still.")
     if config.mqtt and oldest_publication(database, now) > WAITING_SECONDS:

@@ -6,7 +6,7 @@ from dataclasses import dataclass, replace
 from decimal import Decimal
 
 from ..asking import Database
-from .reading import Value, day_values, points_of
+from .reading import Value, points_of
 from .shared import Register, Used, curve_words, is_time, line_of, rising_points, time_text, used_notes, used_of
 
 # how many parts of a moment name a period, and how many periods are shown
@@ -79,9 +79,8 @@ def _used(database: Database, address: str, register: Register, by: str, now: fl
     """What was used in the last periods, the last one first."""
     bounds = bounds_of(by, now)
     # (the last reading in front of them is what the first difference is taken from)
-    points = list(points_of(database, address, register, [bounds[0] - BACK, *bounds]))
-    if by == "month":
-        points = _with_days(database, address, register, points)
+    # (of days whose readings are gone no hour is known)
+    points = points_of(database, address, register, [bounds[0] - BACK, *bounds], with_days=by != "hour")
     return list(used_of(rising_points(points), PERIODS[by][0]).items())[:-PERIODS[by][1] - 1:-1]
 
 
@@ -90,15 +89,6 @@ def _row(register: Register, by: str, period: tuple[int, ...], used: Used, great
     is_longer = used.since < _begin_of_hour(used.first) - 3600 if by == "hour" else used.is_longer()
     amount, text = register.used_text(used.amount, greatest)
     return Row(_period_text(period), amount, register.unit, text, ", ".join(used_notes(used, is_longer)))
-
-
-def _with_days(database: Database, address: str, register: Register,
-               points: list[tuple[int, None, str]]) -> list[tuple[int, None, str]]:
-    """The points with those of days whose readings are gone in front of them."""
-    first = points[0][0] if points else 1 << 62
-    days = ((int(time.mktime((*time.strptime(day, "%Y-%m-%d")[:3], 23, 59, 59, 0, 0, -1))), number)
-            for day, number in day_values(database, address, register))
-    return [(moment, None, number) for moment, number in days if moment < first] + points
 
 
 def _begin_of_hour(hour: tuple[int, ...]) -> float:

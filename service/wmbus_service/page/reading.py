@@ -1,6 +1,7 @@
 """What the pages show, out of the database, which is only read, and of which what has keys can't be read at all."""
 from __future__ import annotations
 
+import json
 import sqlite3
 from collections.abc import Iterator, Sequence
 from dataclasses import dataclass, replace
@@ -8,8 +9,9 @@ from decimal import Decimal
 from pathlib import Path
 from typing import Any
 
-from .. import store
+from .. import begun, store
 from ..asking import Database
+from ..days import IS_TIMED
 from ..sensors import NUMBER
 from ..trouble import Trouble
 from .shared import FIRST_TIME, GRACE, NAMES, PREFIXED, Register, is_number, is_time, label_of, maker_of, prefix_for, type_of
@@ -39,6 +41,7 @@ FIRST_ALWAYS = "function = 'instantaneous' and storage = 0 and tariff = 0 and su
 
 def open_reading(path: Path) -> sqlite3.Connection:
     """Opens the database for reading alone."""
+    begun.judge_lost(path, not path.exists())
     if not path.exists():
         raise Trouble(path, "there is no database yet", "`wmbus-service add` or `wmbus-service run` makes it")
     store.look_at_rights(path, 0o600)
@@ -131,10 +134,37 @@ def told_raw(quantity: str, raw: str) -> str:
     return "" if quantity == "unknown" else raw
 
 
+LAST_OF_EACH = ("select address, name, receiver, retired,"
+                " (select id from reading where reading.address = meter.address and moment >= ? and moment <= ?"
+                "  order by moment desc, id desc limit 1) as timed,"
+                " (select max(id) from reading where reading.address = meter.address and moment < ?) as counted,"
+                " exists (select 1 from reading where reading.address = meter.address) from meter order by place")
+
+
 def all_meters(database: Database, now: float) -> list[Meter]:
-    """All meters, in the order in which they were added."""
-    rows = database.execute("select address, name, receiver, retired from meter order by place").fetchall()
-    return [replace(meter, retired=row[3]) for meter, row in zip(meters_of(database, [row[:3] for row in rows], now), rows, strict=True)]
+    """All meters, in the order in which they were added, each with when it was heard and without its values: so many are asked for at
+    once."""
+    rows = database.execute(LAST_OF_EACH, (FIRST_TIME, int(now) + GRACE, FIRST_TIME)).fetchall()
+    lasts = [max(row[4] or 0, row[5] or 0) if not (row[4] and row[5]) else 0 for row in rows]
+    told = {ident: (moment, made, counter) for ident, moment, made, counter in database.execute(
+        "select id, moment, made, counter from reading where id in (select value from json_each(?))", (json.dumps(lasts),))}
+    found = []
+    for (address, name, receiver, retired, _, _, is_heard), ident in zip(rows, lasts, strict=True):
+        if ident:
+            moment, made, counter = told[ident]
+            found.append(Meter(address, name, receiver, heard_at(moment, made, now), counter, None, retired))
+        elif not is_heard:
+            found.append(Meter(address, name, receiver, None, None, None, retired))
+        else:
+            # (by clocks of several kinds, or ahead alone: these are few)
+            meter = _meter(database, (address, name, receiver), now)
+            found.append(replace(meter, main=None, retired=retired))
+    return found
+
+
+def with_values(database: Database, meters: Sequence[Meter], now: float) -> list[Meter]:
+    """These meters with what says most of each."""
+    return [replace(_meter(database, (it.address, it.name, it.receiver), now), retired=it.retired) for it in meters]
 
 
 def meters_of(database: Database, rows: Sequence[tuple[str, str, str | None]], now: float) -> list[Meter]:
@@ -215,26 +245,32 @@ def last_values(database: Database, address: str, now: float) -> list[Value]:
 
 POINT = ("select moment, exponent, value from reading cross join record on record.reading = reading.id"
          " where address = ? and moment >= ? and moment < ? and quantity = ? and unit = ? and function = ? and storage = ?"
-         " and tariff = ? and subunit = ? and modifiers = ? order by moment desc limit 1")
+         f" and tariff = ? and subunit = ? and modifiers = ? and {IS_TIMED} order by moment desc, reading.id desc, record.place limit 1")
+# a value at a moment, and its power of ten
+Point = tuple[int, int, str]
 
 
-def points_of(database: Database, address: str, register: Register, bounds: Sequence[int]) -> Iterator[tuple[int, None, str]]:
-    """The last value in each stretch between bounds, where there is one."""
+def points_of(database: Database, address: str, register: Register, bounds: Sequence[int],
+              with_days: bool = False) -> Iterator[tuple[int, None, str]]:
+    """The last value in each stretch between bounds, where there is one; also of days whose readings are gone, where that is asked for."""
     kind = (register.quantity, register.unit, register.function, register.storage, register.tariff, register.subunit, register.modifiers)
+    days = _day_points(database, address, register, bounds[0], bounds[-1]) if with_days else []
     for begin, end in zip(bounds, bounds[1:], strict=False):
-        row = database.execute(POINT, (address, begin, end, *kind)).fetchone()
+        row: Point | None = database.execute(POINT, (address, begin, end, *kind)).fetchone()
+        while days and days[-1][0] < end:
+            day = days.pop()
+            row = day if row is None or day[0] > row[0] else row
         if row and NUMBER.fullmatch(row[2]) and abs(row[1]) <= MOST_POWER:
             yield row[0], None, exact(row[2], row[1])
 
 
-def day_values(database: Database, address: str, register: Register) -> Iterator[tuple[str, str]]:
-    """The last values of days whose readings are gone: day and number. (A store that keeps none has no modifiers there.)"""
+def _day_points(database: Database, address: str, register: Register, begin: int, end: int) -> list[Point]:
+    """The last values of days whose readings are gone, the last day first. (A store that keeps none has no modifiers there.)"""
     rows = rows_of(database, "select * from daily where address = ? and quantity = ? and unit = ? and function = ? and storage = ?"
-                             " and tariff = ? and subunit = ? order by day",
+                             " and tariff = ? and subunit = ?",
                    (address, register.quantity, register.unit, register.function, register.storage, register.tariff, register.subunit))
-    for row in rows:
-        if row.get("modifiers", "") == register.modifiers and NUMBER.fullmatch(row["value"]) and abs(row["exponent"]) <= MOST_POWER:
-            yield row["day"], exact(row["value"], row["exponent"])
+    found = [(row["moment"], row["exponent"], row["value"]) for row in rows if row.get("modifiers", "") == register.modifiers]
+    return sorted((it for it in found if it[0] is not None and begin <= it[0] < end), reverse=True)
 
 
 def rows_of(database: Database, query: str, given: Sequence[object] = ()) -> list[dict[str, Any]]:

@@ -4,16 +4,17 @@ from __future__ import annotations
 import logging
 import os
 import threading
-from collections.abc import Callable
+from collections.abc import Callable, Sequence
 from pathlib import Path
 from typing import Any
 
 from .. import store
 from ..config import Config, Page
 from ..ending import Ending
+from ..local import is_local as is_local
 from ..memory_files import leave_no_core
 from ..trouble import Trouble
-from .app import MOST_BODY, MOST_HEAD, create_app, is_local as is_local
+from .app import MOST_BODY, MOST_HEAD, create_app
 
 log = logging.getLogger("wmbus")
 
@@ -21,6 +22,8 @@ LEAST_TOKEN = 24
 THREADS = 4
 # so long a request may take to come as a whole
 SECONDS = 5.0
+# of more connections without TLS than this the one whose request takes longest gives way to a new one
+PLACES = 64
 # so long an answer that is on its way has when the page is to end
 GRACE = 3.0
 
@@ -125,9 +128,20 @@ def plain_server(app: object, page: Page) -> Any:
     return server
 
 
+def make_room(others: Sequence[Any], now: float) -> None:
+    """Ends the connection that is waited for longest, where too many are open; else one that takes nothing of its answer."""
+    if len(others) < PLACES:
+        return
+    waiting = [it for it in others if not it.requests and not it.total_outbufs_len]
+    slow = [it for it in others if it.total_outbufs_len and it.last_activity < now - SECONDS]
+    for it in [min(waiting, key=lambda it: float(it.begun))] if waiting else sorted(slow, key=lambda it: float(it.last_activity))[:1]:
+        it.will_close = True
+
+
 def limit_requests(server: Any) -> None:
     """Has a server without TLS, or each of those of a name's addresses, end connections whose request goes on for too long: it holds as
-    many as there may be, and each piece of one would give it its time anew. Who takes an answer may pause."""
+    many as there may be, and each piece of one would give it its time anew. Who takes an answer may pause. Where many are open that one
+    whose request takes longest ends for each that comes."""
     from waitress.channel import HTTPChannel
     from waitress.server import BaseWSGIServer
 
@@ -136,11 +150,15 @@ def limit_requests(server: Any) -> None:
 
         request: Any
         last_activity: float
+        will_close: bool
+        _map: dict[int, Any]
 
         def __init__(self, *given: Any, **named: Any) -> None:
             super().__init__(*given, **named)
             self.begun = self.last_activity
             self.limit()
+            make_room([it for it in self._map.values() if isinstance(it, Channel) and it is not self and not it.will_close],
+                      self.last_activity)
 
         def limit(self) -> None:
             """From here on nothing more may come once the request's time is over, since the server thinks that nothing has for long."""

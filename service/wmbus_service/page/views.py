@@ -14,9 +14,12 @@ from . import looks, periods, radios
 from .finding import number_of, wanted
 from .reading import (
     Meter, Value, all_meters, commands_of, count_commands, exact, last_values, one_meter, refusals_of, rows_of, strangers,
+    with_values,
 )
 
 MOST_LOOKS, MOST_SHOWN = 100, 200
+# of meters on a page, and of what needs a person
+MOST_METERS, MOST_TOLD = 200, 1000
 
 
 def meter_data(meter: Meter) -> dict[str, Any]:
@@ -38,39 +41,61 @@ def value_data(value: Value) -> dict[str, Any]:
                                       "title": register.name, "of_what": register.of_what}
 
 
-def overview(config: Config, database: Database, now: float) -> dict[str, Any]:
-    """What needs a person first, then all meters, those out of service apart."""
+def overview(config: Config, database: Database, now: float, number: int = 1) -> dict[str, Any]:
+    """What needs a person first, then a page of all meters, those out of service apart."""
     meters = all_meters(database, now)
     found = looks.all_looks(config, database, meters, radios.receivers(config, database, now), now)
-    kinds: dict[str, tuple[str, str]] = {}
-    for look in reversed(found):
-        if look.link.startswith("/meters/"):
-            kinds[look.link.removeprefix("/meters/")] = look.kind, look.what
     totals = dict(database.execute("select name, value from total").fetchall())
     (waiting,) = database.execute("select count(*) from command where state in ('waiting', 'queued', 'sent')").fetchone()
-    rows = [meter_data(meter) | {"look": kinds.get(meter.address)} for meter in meters]
-    return {"now": now, "sqlite": f"{config.database.absolute().as_uri()}?mode=ro", "looks": [vars(look) for look in found],
-            "meters": [it for it in rows if it["retired"] is None], "retired": [it for it in rows if it["retired"] is not None],
+    kinds = _kinds_of(found)
+    pages = {name: _page_of(database, [it for it in meters if (it.retired is not None) is is_retired], number, kinds, now)
+             for name, is_retired in (("meters", False), ("retired", True))}
+    return {"now": now, "sqlite": f"{config.database.absolute().as_uri()}?mode=ro",
+            "looks": [vars(look) for look in found[:MOST_TOLD]], "looks_count": len(found),
+            **{name: rows for name, (rows, _) in pages.items()}, "counts": {name: count for name, (_, count) in pages.items()},
+            "page": number, "most": MOST_METERS,
             "totals": {"lines": totals.get("lines", 0), "stored": totals.get("stored", 0), "commands": waiting,
                        "read": sum(it.heard is not None and it.retired is None for it in meters)}}
 
 
+def _kinds_of(found: list[looks.Look]) -> dict[str, tuple[str, str]]:
+    """Of each meter at which somebody should look the worst kind, and what it is."""
+    kinds: dict[str, tuple[str, str]] = {}
+    for look in reversed(found):
+        if look.link.startswith("/meters/"):
+            kinds[look.link.removeprefix("/meters/")] = look.kind, look.what
+    return kinds
+
+
+def _page_of(database: Database, meters: list[Meter], number: int, kinds: dict[str, tuple[str, str]],
+             now: float) -> tuple[list[dict[str, Any]], int]:
+    """A page of meters, each with its values and its look, and how many meters there are."""
+    begin = (number - 1) * MOST_METERS
+    shown = with_values(database, meters[begin:begin + MOST_METERS], now)
+    return [meter_data(meter) | {"look": kinds.get(meter.address)} for meter in shown], len(meters)
+
+
 # how the list of meters may be sorted, but for the order in which they were added
-ORDERS: dict[str, Callable[[dict[str, Any]], Any]] = {
-    "name": lambda it: it["title"].casefold(), "number": lambda it: number_of(it["address"]), "silence": lambda it: it["heard"] or 0.0,
+ORDERS: dict[str, Callable[[Meter], Any]] = {
+    "name": lambda it: it.title.casefold(), "number": lambda it: number_of(it.address), "silence": lambda it: it.heard or 0.0,
 }
 
 
-def meters_page(config: Config, database: Database, now: float, asked: dict[str, str], is_retired: bool = False) -> dict[str, Any]:
-    """The meters that somebody looks for, in some order; where nobody looks for one those in service, or those out of it."""
-    told = overview(config, database, now)
-    found = told["retired" if is_retired else "meters"]
+def meters_page(config: Config, database: Database, now: float, asked: dict[str, str], is_retired: bool = False,
+                number: int = 1) -> dict[str, Any]:
+    """The meters that somebody looks for, in some order, page by page; where nobody looks for one those in service, or those out of it."""
+    meters = all_meters(database, now)
+    kinds = _kinds_of(looks.all_looks(config, database, meters, [], now))
+    found = [it for it in meters if (it.retired is not None) is is_retired]
     if asked["q"]:
         looked_for = wanted(asked["q"])
-        found = [it for it in told["meters"] + told["retired"] if looked_for.finds(it["address"], it["name"], it["retired"] is None)]
+        # (those in service first)
+        found = [it for it in sorted(meters, key=lambda it: it.retired is not None)
+                 if looked_for.finds(it.address, it.name, it.retired is None)]
     if order := ORDERS.get(asked["order"]):
         found = sorted(found, key=order)
-    return {"now": now, "asked": asked, "orders": list(ORDERS), "meters": found}
+    rows, count = _page_of(database, found, number, kinds, now)
+    return {"now": now, "asked": asked, "orders": list(ORDERS), "meters": rows, "count": count, "page": number, "most": MOST_METERS}
 
 
 def meter_page(database: Database, address: str, span: str, now: float, retired: float | None = None) -> dict[str, Any] | None:

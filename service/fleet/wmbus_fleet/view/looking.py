@@ -14,7 +14,9 @@ from wmbus_service.page.shared import counted, times
 from wmbus_service.page.views import meter_data
 
 from ..retiring import IS_HEARD, heard_words
-from ..status import IS_REPEAT, IS_SET_BACK, PARTS, SILENT, UNITS
+from .. import sums
+from ..status import PARTS, SILENT, UNITS
+from ..sums import IS_REPEAT, IS_SET_BACK
 
 # the state of meters that are out of service and were heard since
 RETIRED_HEARD = "retired-heard"
@@ -25,36 +27,24 @@ DAY = 86_400.0
 LAG = 300
 # (of some locales, as C, PostgreSQL's own lower() knows the letters of ASCII alone; for these it takes a third of the time)
 LETTERS = {True: 'collate "C"', False: 'collate "und-x-icu"'}
-# (as a list by itself these are found by a join, and not by looking at the refusals of each of a million meters)
-BACK = f"back as (select m.address from meter m where {IS_SET_BACK})"
-# (each goes once over the meters)
-METERS = f"""
-with {BACK}
-select count(*) as meters, count(retired) as retired, count(heard) filter (where retired is null) as read,
-    count(*) filter (where heard < ? and retired is null and back.address is null) as silent_meters, count(back.address) as set_back,
-    count(*) filter (where heard is null and retired is null) as unheard_meters, count(*) filter (where {IS_HEARD}) as retired_heard
-from meter m left join back on back.address = m.address"""
+# what is told of commands that came to nothing
+OF_COMMANDS = {
+    "expired": ("command given up", "it was sent three times without an answer. Queue it again once the meter is in reach"),
+    "refused": ("command refused", "it wasn't taken"),
+    "unsure": ("command unsure", "the response that would confirm it was heard before its downlink went out, as a copy of an earlier one that"
+                                 " came late. The meter's readings tell whether it was executed"),
+}
 COUNTS = {
     "inbox": "select count(*) from inbox",
     "commands": "select count(*) from command where state in ('waiting', 'queued', 'sent')",
     "downlinks_waiting": "select count(*) from outbox where sent is null and missed is null",
 }
-# (what another gateway, or a repeater, brought once more is no trouble of an area's)
-AREAS = f"""
-with {BACK},
-    heard as (select g.area, count(*) as meters, count(*) filter (where m.heard < ? and back.address is null) as silent_meters
-        from meter m join gateway g on g.name = m.gateway left join back on back.address = m.address where m.retired is null group by g.area),
-    refused as (select g.area, sum(r.times) as refused
-        from refusal r join meter m on m.address = r.address join gateway g on g.name = m.gateway where not {IS_REPEAT} group by g.area),
-    sending as (select area, count(*) as gateways, count(*) filter (where seen is null or seen < ?) as silent_gateways
-        from gateway where not gone group by area)
-select a.name, coalesce(gateways, 0) as gateways, coalesce(silent_gateways, 0) as silent_gateways, coalesce(meters, 0) as meters,
-    coalesce(silent_meters, 0) as silent_meters, coalesce(refused, 0) as refused
-from area a left join heard on heard.area = a.name left join refused on refused.area = a.name left join sending on sending.area = a.name
-order by a.name"""
+SENDING = """
+select a.name, count(g.name) as gateways, count(g.name) filter (where seen is null or seen < ?) as silent_gateways
+from area a left join gateway g on g.area = a.name and not g.gone group by a.name order by a.name"""
 REFUSALS = f"""
 select r.reason, max(r.words) as words, sum(r.times) as times, count(*) as meters, max(r.last_made) as last_made
-from refusal r join meter m on m.address = r.address join gateway g on g.name = m.gateway where g.area = ?
+from refusal r left join meter m on m.address = r.address join gateway g on g.name = coalesce(r.gateway, m.gateway) where g.area = ?
 group by r.reason order by {IS_REPEAT}, times desc, r.reason"""
 GATEWAYS = """
 select g.name, g.area, g.seen, g.until, g.epoch, g.number, g.gone from gateway g
@@ -64,7 +54,7 @@ order by g.name limit ?"""
 
 def counts(database: Database, now: float) -> dict[str, Any]:
     """How much there is, and how far behind it is."""
-    found: dict[str, Any] = rows_of(database, METERS, (now - METER_SILENCE,))[0]
+    found: dict[str, Any] = sums.of(database, "meters", now)[0]
     found |= {name: database.execute(query).fetchone()[0] for name, query in COUNTS.items()}
     found |= dict(database.execute("select name, value from total").fetchall())
     found["lag"] = lag(database, now)
@@ -96,7 +86,9 @@ def overview(database: Database, now: float) -> dict[str, Any]:
 
 def areas(database: Database, now: float) -> list[dict[str, Any]]:
     """Areas with their gateways, meters and refusals."""
-    return rows_of(database, AREAS, (now - METER_SILENCE, now - SILENT))
+    known = {row["name"]: row for row in sums.of(database, "areas", now)}
+    return [{"meters": 0, "silent_meters": 0, "refused": 0} | known.get(row["name"], {}) | row
+            for row in rows_of(database, SENDING, (now - SILENT,))]
 
 
 def _of_parts(running: dict[str, int], told: dict[str, Any], _now: float) -> Iterator[Look]:
@@ -145,12 +137,10 @@ def _of_rows(database: Database, now: float) -> Iterator[Look]:
     for row in rows_of(database, f"select id, receiver, said from aside order by id desc limit {FEW}"):
         yield Look("bad", "line set aside", f"Line {row['id']} of {row['receiver'] or 'the fleet'}", "/gateways",
                    f"The program failed at it: {row['said'][:200]}. Tell the makers of this program.")
-    for row in rows_of(database, "select id, address, state, reason from command where state in ('expired', 'refused') and changed > ?"
+    for row in rows_of(database, "select id, address, state, reason from command where state in ('expired', 'refused', 'unsure') and changed > ?"
                                  f" order by changed desc limit {FEW}", (now - RECENT,)):
-        what = "command given up" if row["state"] == "expired" else "command refused"
-        yield Look("look", what, row["address"], f"/meters/{row['address']}",
-                   f"Command {row['id']}: {row['reason'] or 'it was sent three times without an answer'}. Queue it again once it is in"
-                   " reach.")
+        what, why = OF_COMMANDS[row["state"]]
+        yield Look("look", what, row["address"], f"/meters/{row['address']}", f"Command {row['id']}: {row['reason'] or why}.")
     for row in rows_of(database, "select address, receiver, missed from outbox where missed is not null and made > ?"
                                  f" order by id desc limit {FEW}", (now - DAY,)):
         yield Look("look", "not sent", row["address"], f"/meters/{row['address']}",
@@ -164,8 +154,7 @@ def _of_rows(database: Database, now: float) -> Iterator[Look]:
 def gateways(database: Database, now: float, area: str | None, is_silent: bool, after: str, most: int = MOST) -> dict[str, Any]:
     """Gateways by name, of an area or all, the silent ones or all, behind a name."""
     rows = rows_of(database, GATEWAYS, (area, is_silent, now - SILENT, after, most + 1))
-    heard = dict(database.execute("select gateway, count(*) from meter where gateway = any(?) and retired is null"
-                                  " group by gateway", ([row["name"] for row in rows],)).fetchall())
+    heard = {row["gateway"]: row["meters"] for row in sums.of(database, "gateways", now)} if rows else {}
     for row in rows:
         row["meters"] = heard.get(row["name"], 0)
         row["is_silent"] = not row["gone"] and (row["seen"] is None or row["seen"] < now - SILENT)

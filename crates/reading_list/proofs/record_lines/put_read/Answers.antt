@@ -11,9 +11,10 @@ unfolding read_members
 returns g c =
     let read = c.full_record_of-record.ensures in
     pieces_put c.args.form read.quantity read.unit read.value read.unset c.bytes_at-sent.ensures
-    (c.as_slice-qualifiers.ensures.value ∙ read.qualifiers) read.data_type (ap (λ (u : Unit). u.quantity) c.unit_of-profile.ensures)
+    (c.as_slice-qualifiers.ensures.value ∙ read.qualifiers) read.data_type (ap (λ (u : Unit). u.quantity) c.full_unit_of-profile.ensures)
+    read.plain
     (c.bytes_at-modifiers.ensures
-    ∙ ap (λ (u : Unit). bytes_at c.args.bytes.now u.modifiers_at u.modifiers) c.unit_of-profile.ensures)
+    ∙ ap (λ (u : Unit). bytes_at c.args.bytes.now u.modifiers_at u.modifiers) c.full_unit_of-profile.ensures)
     (c.shown.ensures ∙ ap (λ t. shown t c.bytes_at-sent.result.now) read.data_type
     ∙ ap (λ s. shown (full_data_type c.args.bytes.now c.args.span.now) s) c.bytes_at-sent.ensures)
-    c.put_measure.ensures c.put_value.ensures c.put_kind.ensures c.put_profile.ensures c.put_byte_members.ensures
+    c.put_measure.ensures c.put_value.ensures c.put_kind.ensures c.put_profile.ensures c.put_plain.ensures c.put_byte_members.ensures

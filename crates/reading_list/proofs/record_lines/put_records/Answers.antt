@@ -1,8 +1,8 @@
 -- Up to the first fault each record's line stands behind those before it.
 use Rattle.std.proofs.Common.{◌≡◌, ◌<◌, sym, ap, ◌∙◌, subst, IfSome, Ok, Err, Some, None, arith}
 use Rattle.dif_vif.specs.Spans.{LiesWithin}
-use Rattle.dif_vif.specs.Listing.{spans_from}
-use Rattle.dif_vif.specs.Reading.{next_of}
+use Rattle.full_spans.specs.Listing.{full_spans_from}
+use Rattle.full_spans.specs.Walk.{next_full_of}
 use Rattle.reading_list.specs.RecordLines.{fault_from}
 use Rattle.reading_list.proofs.RecordsPut.{spans_next, fault_next, line_more, lines_end}
 use Rattle.reading_list.proofs.record_lines.put_records.Goals as goal
@@ -10,8 +10,8 @@ use Rattle.reading_list.proofs.record_lines.put_records.Goals as goal
 pub returns-in-Err : goal.returns-in-Err
 returns-in-Err g c =
     let some : 0 < c.records.left = omega (arith, c.records-test.true) in
-    let is : next_of c.args.step.now.payload.items c.records.from ≡ Err c.in-Err.fault =
-    ap (λ bytes. next_of bytes c.records.from) (sym c.as_slice.ensures.value) ∙ sym c.in-Err.ensures.exact in
+    let is : next_full_of c.args.step.now.payload.items c.records.from ≡ Err c.in-Err.fault =
+    ap (λ bytes. next_full_of bytes c.records.from) (sym c.as_slice.ensures.value) ∙ sym c.in-Err.ensures.exact in
     record {
       text = c.records.invariant.text _ (lines_end _ c.records.left _ c.records.from _ (spans_next c.records.left _ c.records.from _ some is));
       fault = sym (fault_next c.records.left _ c.records.from _ some is) ∙ c.records.invariant.fault;
@@ -20,8 +20,8 @@ returns-in-Err g c =
 pub returns-in-Ok-None : goal.returns-in-Ok-None
 returns-in-Ok-None g c =
     let some : 0 < c.records.left = omega (arith, c.records-test.true) in
-    let is : next_of c.args.step.now.payload.items c.records.from ≡ Ok None =
-    ap (λ bytes. next_of bytes c.records.from) (sym c.as_slice.ensures.value) ∙ sym c.in-Ok-None.ensures.exact
+    let is : next_full_of c.args.step.now.payload.items c.records.from ≡ Ok None =
+    ap (λ bytes. next_full_of bytes c.records.from) (sym c.as_slice.ensures.value) ∙ sym c.in-Ok-None.ensures.exact
     ∙ ap Ok c.in-Ok-None.field-0-is in
     record {
       text = c.records.invariant.text _ (lines_end _ c.records.left _ c.records.from _ (spans_next c.records.left _ c.records.from _ some is));
@@ -31,8 +31,8 @@ returns-in-Ok-None g c =
 pub records-preserved : goal.records-preserved
 records-preserved g c =
     let some : 0 < c.records.left = omega (arith, c.records-test.true) in
-    let is : next_of c.args.step.now.payload.items c.records.from ≡ Ok (Some c.in-Ok-Some.span) =
-    ap (λ bytes. next_of bytes c.records.from) (sym c.as_slice.ensures.value) ∙ sym c.in-Ok-Some.ensures.exact
+    let is : next_full_of c.args.step.now.payload.items c.records.from ≡ Ok (Some c.in-Ok-Some.span) =
+    ap (λ bytes. next_full_of bytes c.records.from) (sym c.as_slice.ensures.value) ∙ sym c.in-Ok-Some.ensures.exact
     ∙ ap Ok c.in-Ok-Some.field-0-is in
     let within : LiesWithin c.args.step.now.payload.items c.in-Ok-Some.span =
     subst (λ bytes. LiesWithin bytes c.in-Ok-Some.span) c.as_slice.ensures.value
@@ -46,11 +46,11 @@ records-preserved g c =
     }
 
 pub returns : goal.returns
-unfolding spans_from fault_from
+unfolding full_spans_from fault_from
 returns g c =
     let none : c.records.left ≡ 0 = omega (arith, c.records-test.false) in
     record {
       text = c.records.invariant.text _
-          (lines_end _ c.records.left _ c.records.from _ (ap (λ n. spans_from n c.args.step.now.payload.items c.records.from) none));
+          (lines_end _ c.records.left _ c.records.from _ (ap (λ n. full_spans_from n c.args.step.now.payload.items c.records.from) none));
       fault = sym (ap (λ n. fault_from n c.args.step.now.payload.items c.records.from) none) ∙ c.records.invariant.fault;
     }

@@ -16,7 +16,7 @@ loop-slot-preserved g c =
     ∙ ap (λ b. b ∷ drop (i + 1) slots) (sym c.slot-item.is) in
     λ q rest. c.loop-slot.invariant q (is_put _ _ (ap (λ bs. items_text c.loop-slot.later (items_of (map meter_tree bs))) cut)
     (item_put c.loop-slot.later (meter_tree slot) (items_of (map meter_tree (drop (i + 1) slots)))
-    c.put_comma.ensures c.put_slot.ensures rest))
+    c.put_comma.ensures c.put_item.ensures rest))
 
 pub returns : goal.returns
 returns g c = c.loop-slot.invariant _ (is_put _ _ (ap (λ bs. items_text c.loop-slot.later (items_of (map meter_tree bs)))

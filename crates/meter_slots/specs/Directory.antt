@@ -1,2 +1,0 @@
--- Addresses that differ.
-pub use Rattle.meter_address.specs.Address.{AreApart}

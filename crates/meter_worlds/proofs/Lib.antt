@@ -1,0 +1,2 @@
+pub mod PassingWorlds
+pub mod Worlds

@@ -1,0 +1,7 @@
+use Rattle.std.proofs.Common.{map, take, length}
+use Rattle.meter_worlds.specs.PassingWorld.{ArePassing}
+use Rattle.meter_slots.specs.World.{fresh_slot}
+use Rattle.meter_worlds.proofs.passing_world.fresh_meters.Given as goal
+
+abbrev pub invariant-loop-start : goal.invariant-loop-start
+invariant-loop-start l = ArePassing (map (fresh_slot l.fn.own) (take (length l.yielded) l.fn.starts.items)) l.meters.items
