@@ -2,17 +2,27 @@
 from __future__ import annotations
 
 import re
+import socket
+import tempfile
+import threading
 import time
 from collections.abc import Iterator
+from contextlib import ExitStack, contextmanager
+from pathlib import Path
 from typing import Any
 
 import pytest
 from flask import Flask
 from flask.testing import FlaskClient
 from wmbus_service.days import zone_now
-from wmbus_service.page.app import create_app
+from wmbus_service.ending import Ending
+from wmbus_service.page.answering import Answering, listen_at, serve
+from wmbus_service.page.apart import FarDoor
+from wmbus_service.page.app import create_apart, create_app
+from wmbus_service.page.tokens import Guard
 
 from readings.used import hour_of
+from .processes import PATIENCE
 from .test_sessions import NOW, House
 
 TOKEN = "a-token-of-the-tests-0123456789"
@@ -32,6 +42,12 @@ class PageHouse:
         app = create_app(self.house.config, token, is_elsewhere)
         app.config.update(CLOCK=lambda: NOW, TESTING=False)
         return app
+
+    def guard(self, app: Flask) -> Guard:
+        """Who judges a page's tokens."""
+        found = app.config["GUARD"]
+        assert isinstance(found, Guard)
+        return found
 
     def client(self) -> FlaskClient:
         """Who asks the page from this machine."""
@@ -65,6 +81,46 @@ class PageHouse:
         self.house.database.execute(query, given)
 
 
+class ApartHouse(PageHouse):
+    """The same, whose page is that of a user who can't read the database."""
+
+    def __init__(self, house: House, held: ExitStack) -> None:
+        self.held, self.guards = held, dict[Flask, Guard]()
+        super().__init__(house)
+
+    def page(self, token: str | None = None, is_elsewhere: bool = False) -> Flask:
+        """The page at the moment of the tests."""
+        answering = Answering(self.house.config)
+        answering.guard, answering.is_elsewhere = Guard(token), is_elsewhere
+        door = FarDoor(self.held.enter_context(answered(answering)))
+        door.has_token = token is not None
+        app = create_apart(door, is_elsewhere)
+        answering.clock = lambda: float(app.config["CLOCK"]())
+        app.config.update(CLOCK=lambda: NOW, TESTING=False)
+        self.guards[app] = answering.guard
+        return app
+
+    def guard(self, app: Flask) -> Guard:
+        """Who judges a page's tokens."""
+        return self.guards[app]
+
+
+@contextmanager
+def answered(answering: Answering) -> Iterator[Path]:
+    """A socket at which a page's questions are answered. (A socket's path isn't long.)"""
+    ending = Ending()
+    with tempfile.TemporaryDirectory() as folder, socket.socket(socket.AF_UNIX) as listening:
+        path = Path(folder) / "door"
+        listen_at(listening, path)
+        serving = threading.Thread(target=serve, args=(ending, listening, answering))
+        serving.start()
+        try:
+            yield path
+        finally:
+            ending.set()
+            serving.join(PATIENCE)
+
+
 def forms_word(page: str) -> str:
     """The word that a page's forms bring."""
     found = re.search(r'name="forms" value="([^"]+)"', page)
@@ -93,4 +149,13 @@ def page_fixture(house: House, monkeypatch: pytest.MonkeyPatch) -> Iterator[Page
     zoned(monkeypatch, "UTC")
     yield PageHouse(house)
     # (the tests behind it aren't in the zone of this one)
+    zoned(monkeypatch, "UTC")
+
+
+@pytest.fixture(name="page", params=["of the service's user", "of a user of its own"])
+def each_page_fixture(request: pytest.FixtureRequest, house: House, monkeypatch: pytest.MonkeyPatch) -> Iterator[PageHouse]:
+    """A house with a page, which the service's user serves, or one that can't read the database."""
+    zoned(monkeypatch, "UTC")
+    with ExitStack() as held:
+        yield PageHouse(house) if request.param == "of the service's user" else ApartHouse(house, held)
     zoned(monkeypatch, "UTC")

@@ -11,6 +11,7 @@ import sqlite3
 import subprocess
 import tracemalloc
 from contextlib import closing, suppress
+from functools import partial
 from pathlib import Path
 from typing import Any
 
@@ -26,7 +27,7 @@ from telegrams import messages
 from readings import service_tables
 from readings.used import hour_of
 from .kill import TOP
-from .page_house import DAY, HOUR, TOKEN, PageHouse, entered, page_fixture, zoned  # noqa: F401
+from .page_house import DAY, HOUR, TOKEN, PageHouse, each_page_fixture, entered, zoned  # noqa: F401
 from .processes import run
 from .test_sessions import NOW, house_fixture  # noqa: F401
 
@@ -584,7 +585,7 @@ def test_a_csv_that_nobody_reads_on(page: PageHouse, monkeypatch: pytest.MonkeyP
     with closing(reading.open_reading(page.house.config.database)) as opened:
         for piece in (200, 1, 2, 3):
             monkeypatch.setattr(views, "PIECE", piece, raising=False)
-            rows = views.readings_csv(opened, [address], int(moments[0]), int(NOW))
+            rows = views.readings_csv([address], int(moments[0]), partial(views.piece_of_readings, opened, int(NOW)))
             told = [next(rows) for _ in range(3)]
             page.volume(other, NOW - piece, 1)
             _, logged, done = page.house.database.execute("pragma wal_checkpoint(passive)").fetchone()

@@ -10,7 +10,7 @@ from wmbus_service.page import serving
 from wmbus_service.tool_modules import version
 from wmbus_service.trouble import Trouble
 
-from .page_house import HOUR, TOKEN, PageHouse, entered, forms_word, page_fixture  # noqa: F401
+from .page_house import HOUR, TOKEN, PageHouse, each_page_fixture, entered, forms_word  # noqa: F401
 from .test_sessions import NOW, house_fixture  # noqa: F401
 
 STRANGER = "2d2c785634121b16"
@@ -63,7 +63,7 @@ def test_wrong_tokens(page: PageHouse, caplog: pytest.LogCaptureFixture) -> None
     assert given("a wrong one") == 403 and given(TOKEN) == 303
     for number in range(2000):
         given("x", f"10.1.{number // 200}.{number % 200}")
-    wrong = app.config["WRONG"]
+    wrong = page.guard(app).wrong
     assert len(wrong.moments) == 1000 and caplog.text.count("a wrong token came") < 70
 
 

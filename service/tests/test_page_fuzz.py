@@ -17,7 +17,7 @@ import waitress
 from flask.testing import FlaskClient
 from werkzeug.test import TestResponse
 
-from .page_house import TOKEN, PageHouse, entered, forms_word, page_fixture  # noqa: F401
+from .page_house import TOKEN, PageHouse, each_page_fixture, entered, forms_word  # noqa: F401
 from .test_page_hostile import MARKUP, TAGS, Tags, hostile
 from .test_sessions import house_fixture  # noqa: F401
 

@@ -7,7 +7,7 @@ from html.parser import HTMLParser
 import pytest
 from flask.testing import FlaskClient
 
-from .page_house import DAY, TOKEN, PageHouse, entered, page_fixture  # noqa: F401
+from .page_house import DAY, TOKEN, PageHouse, each_page_fixture, entered  # noqa: F401
 from .test_sessions import NOW, house_fixture  # noqa: F401
 
 MARKUP = "<script>alert(1)</script><img src=x onerror=alert(1)>\"' onmouseover=x {{ 7 * 7 }} \u202e\x00"

@@ -79,7 +79,10 @@ def words() -> argparse.ArgumentParser:
     command("run", _run, "runs the service until it gets SIGTERM or SIGINT")
     command("receive", _receive, "feeds the spool from a receiver").add_argument("name", metavar="NAME",
                                                                                  help="the receiver's name in the configuration")
-    command("page", _page, "serves the page that people look at, until it gets SIGTERM or SIGINT")
+    command("page", _page, "serves the page that people look at, until it gets SIGTERM or SIGINT").add_argument(
+        "--door", metavar="SOCKET", type=Path, help="by a user who can't read the database: `door` answers it at this socket")
+    command("door", _door, "answers a page of another user, until it gets SIGTERM or SIGINT").add_argument(
+        "socket", metavar="SOCKET", type=Path, help="where: those of its folder's group may ask")
     command("check", _check, "looks at configuration, rights, programs, meters, receivers, broker, metrics and page, and says what is wrong")
     made = command("status", _status, "says what was heard and what somebody should look at")
     made.add_argument("--json", action="store_true", help="as data")
@@ -219,7 +222,18 @@ def _receive(asked: argparse.Namespace) -> int:
 
 def _page(asked: argparse.Namespace) -> int:
     from .page import servers
-    servers().run(_config(asked))
+    if asked.door:
+        servers().run_apart(asked.door)
+    else:
+        servers().run(_config(asked))
+    return DONE
+
+
+def _door(asked: argparse.Namespace) -> int:
+    from .page import servers
+    servers()
+    from .page import answering
+    answering.run(_config(asked), asked.socket)
     return DONE
 
 

@@ -8,6 +8,7 @@ import time
 from collections.abc import Iterator
 from contextlib import closing
 from datetime import datetime, time as clock_time
+from functools import partial
 from typing import Any
 
 from flask import (
@@ -24,9 +25,12 @@ from ..config import Config
 from ..local import is_local
 from ..tool_modules import FOLDER, version
 from ..trouble import Trouble
-from . import periods, reading, tokens, views
-from .house import Door, HouseDoor, Retiring
+from . import periods, views
+from .apart import FarDoor, Refused
+from .house import Door, HouseDoor, Opening, Retiring
+from .questions import QUESTIONS, Asked
 from .shared import counted, grouped, is_address, time_text, times, zone_text
+from .tokens import ENTERED_SECONDS, Guard, Guarding
 
 log = logging.getLogger("wmbus")
 
@@ -43,8 +47,6 @@ HEADERS = {
 MOST_BYTES = 1 << 16
 # so many bytes a server takes of a request's head at most, and of its body; the page itself takes fewer, and says so in words
 MOST_HEAD, MOST_BODY = 1 << 16, 1 << 20
-# after so long the token is asked for again
-ENTERED_SECONDS = 12 * 3600
 LAST_MOMENT = (1 << 63) - 1
 MOST_SHOWN = 200
 # of what is looked for
@@ -90,11 +92,21 @@ def create_app(config: Config, token: str | None = None, is_elsewhere: bool = Fa
     return app
 
 
+def create_apart(door: FarDoor, is_elsewhere: bool) -> Flask:
+    """The page of a house by a user who can't read its database: all is asked of who can."""
+    app = _create(door, door, is_elsewhere)
+    app.register_blueprint(house)
+    return app
+
+
 def create_page(door: Door, token: str | None, is_elsewhere: bool) -> Flask:
     """The page over a store: what is shown of any."""
+    return _create(door, Guard(token), is_elsewhere)
+
+
+def _create(door: Door, guard: Guarding, is_elsewhere: bool) -> Flask:
     app = Pages(__name__)
-    app.config.update(DOOR=door, TOKEN=token, IS_ELSEWHERE=is_elsewhere, CLOCK=time.time, MAX_CONTENT_LENGTH=MOST_BYTES,
-                      ENTERED=tokens.Entered(ENTERED_SECONDS), WRONG=tokens.Wrong(),
+    app.config.update(DOOR=door, GUARD=guard, IS_ELSEWHERE=is_elsewhere, CLOCK=time.time, WMBUS=None, MAX_CONTENT_LENGTH=MOST_BYTES,
                       SESSION_COOKIE_NAME="wmbus", PERMANENT_SESSION_LIFETIME=ENTERED_SECONDS,
                       SESSION_COOKIE_SAMESITE="Strict", SESSION_COOKIE_SECURE=is_elsewhere)
     app.session_interface = Sessions()
@@ -102,8 +114,9 @@ def create_page(door: Door, token: str | None, is_elsewhere: bool) -> Flask:
     app.secret_key = secrets.token_bytes(32)
     app.jinja_options = {"trim_blocks": True, "lstrip_blocks": True}
     app.jinja_env.filters.update(moment=_moment_text, ago=_ago, grouped=grouped, counted=counted, times=times, html=Markup)
-    app.jinja_env.globals.update(zone=zone_text, version=version, may_write=may_write, may_read=lambda: not is_elsewhere or may_write(), has_token=lambda: token is not None, forms=_forms_word,
-                                 new_ident=new_ident, spans=list(periods.SPANS), door=door, retires=isinstance(door, Retiring))
+    app.jinja_env.globals.update(zone=zone_text, version=version, may_write=may_write, may_read=lambda: not is_elsewhere or may_write(),
+                                 has_token=lambda: guard.has_token, forms=_forms_word, new_ident=new_ident, spans=list(periods.SPANS),
+                                 door=door, retires=isinstance(door, Retiring))
     app.register_blueprint(pages)
     from .forms import forms
     app.register_blueprint(forms)
@@ -112,16 +125,10 @@ def create_page(door: Door, token: str | None, is_elsewhere: bool) -> Flask:
     app.teardown_appcontext(_close)
     app.register_error_handler(HTTPException, _http_fault)
     app.register_error_handler(Trouble, _trouble)
+    app.register_error_handler(Refused, lambda _: _fault_page(403, WORDS[403]))
     app.register_error_handler(door.faults, _database_fault)
     app.register_error_handler(Exception, _any_fault)
     return app
-
-
-def config_now() -> tuple[Config, float]:
-    """The configuration and the clock."""
-    config = current_app.config["WMBUS"]
-    assert isinstance(config, Config)
-    return config, clock()
 
 
 def clock() -> float:
@@ -135,15 +142,37 @@ def door_of() -> Door:
     return door
 
 
+def guard_of() -> Guarding:
+    """Who judges tokens."""
+    guard: Guarding = current_app.config["GUARD"]
+    return guard
+
+
 def may_write() -> bool:
     """Whether who asks has given the token, and not too long ago; each answer makes the cookie itself younger."""
-    return current_app.config["TOKEN"] is not None and bool(current_app.config["ENTERED"].is_in(session.get("entered"), clock()))
+    word = session.get("entered")
+    if word is None:
+        return False
+    # (a page asks it for each of its forms)
+    if g.get("judged", ("", False))[0] != word:
+        g.judged = word, guard_of().is_in(word, clock())
+    return bool(g.judged[1])
+
+
+def told(name: str, **words: Any) -> Any:
+    """The answer to a question about the store."""
+    door = door_of()
+    if isinstance(door, FarDoor):
+        return door.ask(name, session.get("entered"), words)
+    return QUESTIONS[name](Asked(door, database(), clock(), current_app.config["WMBUS"]), **words)
 
 
 def database() -> Database:
     """The database of this request, for reading."""
     if "database" not in g:
-        g.database = door_of().opened()
+        door = door_of()
+        assert isinstance(door, Opening)
+        g.database = door.opened()
     opened: Database = g.database
     return opened
 
@@ -250,8 +279,7 @@ def common_style() -> Response:
 @house.get("/")
 def overview() -> str:
     """What needs a person, then all meters."""
-    config, now = config_now()
-    return render_template("overview.html", shows_retired=_shows_retired(), **views.overview(config, database(), now, _page_number()))
+    return render_template("overview.html", shows_retired=_shows_retired(), **told("overview", number=_page_number()))
 
 
 def _shows_retired() -> bool:
@@ -265,12 +293,11 @@ def meters() -> str:
     return render_template("meters.html", **_meters())
 
 
-def _meters() -> dict[str, Any]:
-    config, now = config_now()
+def _meters() -> Any:
     asked = {name: text_asked(name) for name in ("q", "order")}
     if asked["order"] and asked["order"] not in views.ORDERS:
         raise Worded(f"An order is one of {', '.join(views.ORDERS)}.")
-    return views.meters_page(config, database(), now, asked, _shows_retired(), _page_number())
+    return told("meters", asked=asked, is_retired=_shows_retired(), number=_page_number())
 
 
 def _page_number() -> int:
@@ -292,14 +319,12 @@ def meter(address: str) -> str:
     return render_template("meter.html", most=MOST_SHOWN, **_meter(address))
 
 
-def _meter(address: str) -> dict[str, Any]:
+def _meter(address: str) -> Any:
     span = request.args.get("span", "month")
     if span not in periods.SPANS:
         raise Worded(f"A span is one of {', '.join(periods.SPANS)}.")
-    address, door = _address(address), door_of()
-    retired = door.retired_since(database(), address) if isinstance(door, Retiring) else None
-    told = views.meter_page(database(), address, span, clock(), retired)
-    return told if told is not None else abort(404)
+    found = told("meter", address=_address(address), span=span)
+    return found if found is not None else abort(404)
 
 
 def _address(text: str) -> str:
@@ -311,21 +336,19 @@ def _address(text: str) -> str:
 @house.get("/receivers")
 def receivers() -> str:
     """The receivers."""
-    config, now = config_now()
-    return render_template("receivers.html", **views.receivers_page(config, database(), now))
+    return render_template("receivers.html", **told("receivers"))
 
 
 @pages.get("/strangers")
 def strangers() -> str:
     """The meters that aren't known."""
-    return render_template("strangers.html", most=MOST_SHOWN, **views.strangers_page(database(), clock()))
+    return render_template("strangers.html", most=MOST_SHOWN, **told("strangers"))
 
 
 @house.get("/api/overview")
 def api_overview() -> Response:
     """The overview as data."""
-    config, now = config_now()
-    return jsonify(views.overview(config, database(), now, _page_number()))
+    return jsonify(told("overview", number=_page_number()))
 
 
 @house.get("/api/meters")
@@ -343,38 +366,41 @@ def api_meter(address: str) -> Response:
 @house.get("/api/receivers")
 def api_receivers() -> Response:
     """The receivers as data."""
-    config, now = config_now()
-    return jsonify(views.receivers_page(config, database(), now))
+    return jsonify(told("receivers"))
 
 
 @pages.get("/api/strangers")
 def api_strangers() -> Response:
     """The meters that aren't known, as data."""
-    return jsonify(views.strangers_page(database(), clock()))
+    return jsonify(told("strangers"))
 
 
 @house.get("/readings.csv")
 def all_readings() -> Response:
     """All meters' readings in a span."""
-    return _csv("readings.csv", [it for (it,) in database().execute("select address from meter order by place")])
+    return _csv("readings.csv", told("addresses"))
 
 
 @pages.get("/meters/<address>/readings.csv")
 def meter_readings(address: str) -> Response:
     """A meter's readings in a span."""
-    known = reading.one_meter(database(), _address(address), clock())
-    return abort(404) if known is None else _csv(f"{known.address}.csv", [known.address])
+    known = told("known", address=_address(address))
+    return abort(404) if known is None else _csv(f"{known}.csv", [known])
 
 
 def _csv(name: str, addresses: list[str]) -> Response:
     """Readings from a moment or day to another, line by line."""
     # (where an hour comes twice at a day's end, its second one is of that day too)
     begin, end = _bound("from", 0, clock_time()), _bound("to", LAST_MOMENT, clock_time(23, 59, 59, fold=1))
-    door = door_of()
+    door, word = door_of(), session.get("entered")
 
     def rows() -> Iterator[str]:
+        if isinstance(door, FarDoor):
+            yield from views.readings_csv(addresses, begin, partial(door.readings, word, end))
+            return
+        assert isinstance(door, Opening)
         with closing(door.opened()) as opened:
-            yield from views.readings_csv(opened, addresses, begin, end)
+            yield from views.readings_csv(addresses, begin, partial(views.piece_of_readings, opened, end))
     return Response(rows(), mimetype="text/csv", headers={"Content-Disposition": f'attachment; filename="{name}"'})
 
 

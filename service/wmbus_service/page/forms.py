@@ -6,14 +6,15 @@ import secrets
 from hmac import compare_digest
 from urllib.parse import urlsplit
 
-from flask import Blueprint, abort, current_app, flash, redirect, render_template, request, session
+from flask import Blueprint, abort, flash, redirect, render_template, request, session
 from werkzeug.wrappers import Response
 
 from ..commands import KEY, joined, waiting_words
 from ..importing import ADDRESS
 from ..meters import MODES, name_of
-from .app import Worded, clock, door_of, may_write, new_ident
+from .app import Worded, clock, door_of, guard_of, may_write, new_ident
 from .house import Retiring
+from .tokens import HasToWait
 
 forms = Blueprint("forms", __name__)
 
@@ -49,7 +50,7 @@ def _field(name: str) -> str:
 @forms.get("/enter")
 def enter() -> str:
     """Asks for the token."""
-    if current_app.config["TOKEN"] is None:
+    if not guard_of().has_token:
         abort(404)
     return render_template("enter.html")
 
@@ -57,20 +58,20 @@ def enter() -> str:
 @forms.post("/enter")
 def entered() -> Response:
     """Takes the token."""
-    token, wrong, address = current_app.config["TOKEN"], current_app.config["WRONG"], request.remote_addr or "nowhere"
-    if wrong.has_to_wait(address, clock()):
+    try:
+        word = guard_of().enter(_field("token"), request.remote_addr or "nowhere", clock())
+    except HasToWait:
         abort(429)
-    if token is None or not compare_digest(_field("token").encode(), token.encode()):
-        wrong.add(address, clock())
+    if word is None:
         raise Worded("This isn't the token, which stands in the file that the configuration names as page.token_file.", 403)
-    session["entered"], session.permanent = current_app.config["ENTERED"].enter(clock()), True
+    session["entered"], session.permanent = word, True
     return redirect("/", 303)
 
 
 @forms.post("/leave")
 def leave() -> Response:
     """Forgets that the token was given, for each copy of this session."""
-    current_app.config["ENTERED"].leave(session.get("entered"))
+    guard_of().leave(session.get("entered"))
     session.clear()
     return redirect("/", 303)
 
@@ -123,7 +124,7 @@ def add() -> Response:
         raise Worded("A key has 32 hexadecimal digits.")
     name = name_of(_field("name"))
     door = door_of()
-    if door.add_meter(f"meter {address} {mode} {key} - - 0 0", name):
+    if door.add_meter(address, mode, key, name):
         flash(f"{name or address} was added. What it sends from now on is read.")
     elif isinstance(door, Retiring) and door.bring_back(address):
         flash("This meter is known already, and is back in service; its key stays as it is.")

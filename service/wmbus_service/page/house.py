@@ -16,7 +16,7 @@ from .reading import open_reading
 
 
 class Door(Protocol):
-    """A store of meters. What it opens has the service's tables, as far as the page reads them."""
+    """A store of meters, and what may be done to it."""
 
     @property
     def links(self) -> Sequence[tuple[str, str]]:
@@ -30,9 +30,6 @@ class Door(Protocol):
     def faults(self) -> type[Exception]:
         """What may go wrong with the database."""
 
-    def opened(self) -> Database:
-        """The database, for reading alone."""
-
     def trouble_of(self, fault: Exception) -> Trouble:
         """What went wrong, in words."""
 
@@ -42,16 +39,21 @@ class Door(Protocol):
     def cancel_command(self, address: str, ident: str, now: float) -> str | None:
         """Cancels a meter's command; the state that it has, none where there is no such command."""
 
-    def add_meter(self, line: str, name: str) -> bool:
-        """Adds a meter by what stands in its line of a roster; whether it is new."""
+    def add_meter(self, address: str, mode: str, key: str, name: str) -> bool:
+        """Adds a meter; whether it is new."""
+
+
+@runtime_checkable
+class Opening(Protocol):
+    """A door whose database can be opened here. What it opens has the service's tables, as far as the page reads them."""
+
+    def opened(self) -> Database:
+        """The database, for reading alone."""
 
 
 @runtime_checkable
 class Retiring(Protocol):
     """A store whose meters may be out of service, which not each one tells."""
-
-    def retired_since(self, database: Database, address: str) -> float | None:
-        """Since when a meter is out of service; none while it is in service."""
 
     def retire(self, address: str, now: float) -> int:
         """Says that a meter is out of service; how many commands still wait for it."""
@@ -94,9 +96,9 @@ class HouseDoor:
                 return None
             return cancel_command(database, ident, now, Publications(self.config.mqtt, database))
 
-    def add_meter(self, line: str, name: str) -> bool:
-        """Adds a meter by what stands in its line of a roster; whether it is new."""
-        address = line.split(" ")[1]
+    def add_meter(self, address: str, mode: str, key: str, name: str) -> bool:
+        """Adds a meter; whether it is new."""
+        line = f"meter {address} {mode} {key} - - 0 0"
         with self._writing() as database:
             own = store.setting(database, "own")
             if own is None:
@@ -105,10 +107,6 @@ class HouseDoor:
                 return False
             database.execute("update meter set name = ? where address = ?", (name, address))
             return True
-
-    def retired_since(self, database: Database, address: str) -> float | None:
-        """Since when a meter is out of service; none while it is in service."""
-        return meters.retired_since(database, address)
 
     def retire(self, address: str, now: float) -> int:
         """Says that a meter is out of service; how many commands still wait for it."""

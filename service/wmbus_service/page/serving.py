@@ -14,7 +14,9 @@ from ..ending import Ending
 from ..local import is_local as is_local
 from ..memory_files import leave_no_core
 from ..trouble import Trouble
-from .app import MOST_BODY, MOST_HEAD, create_app
+from .apart import FarDoor, FarFiles
+from .app import MOST_BODY, MOST_HEAD, create_apart, create_app
+from .certificates import CertificateFiles
 
 log = logging.getLogger("wmbus")
 
@@ -65,16 +67,34 @@ def run(config: Config) -> None:
     serve_page(config.page or Page(), made)
 
 
+def run_apart(path: Path) -> None:
+    """Serves the page by a user who can't read the database: all is asked at a socket."""
+    ending = begun()
+    door = FarDoor(path)
+    page = door.settings()
+    serve(ending, page, create_apart(door, not is_local(page.host)), FarFiles(door))
+
+
 def serve_page(page: Page, made: Callable[[str | None, bool], object]) -> None:
     """Serves what is made for a token, and for others than those of this machine, until SIGTERM or SIGINT, and ends the process then."""
+    ending = begun()
+    token = look_at_page(page)
+    serve(ending, page, made(token, not is_local(page.host)), CertificateFiles(page))
+
+
+def begun() -> Ending:
+    """What a process that serves does first."""
     ending = Ending()
     ending.heed_signals()
     os.umask(0o077)
     leave_no_core()
-    token = look_at_page(page)
-    app = made(token, not is_local(page.host))
+    return ending
+
+
+def serve(ending: Ending, page: Page, app: object, files: CertificateFiles) -> None:
+    """Serves a page until the end, and ends the process then."""
     host = f"[{page.host}]" if ":" in page.host else page.host
-    server = server_with_tls(app, page) if page.certificate else plain_server(app, page)
+    server = server_with_tls(app, page, files) if page.certificate else plain_server(app, page)
 
     def serve_with_tls() -> None:
         server.prepare()
@@ -182,14 +202,14 @@ def port_of(server: Any) -> int:
     return int(server.effective_listen[0][1] if hasattr(server, "effective_listen") else server.effective_port)
 
 
-def server_with_tls(app: object, page: Page) -> Any:
+def server_with_tls(app: object, page: Page, files: CertificateFiles) -> Any:
     """A server with TLS."""
     try:
         from .tls import server_of
     except ImportError:
         raise Trouble("page.certificate", "TLS needs cheroot, which isn't there", "apt-get install python3-cheroot") from None
     try:
-        return server_of(app, page, THREADS, SECONDS)
+        return server_of(app, page, files, THREADS, SECONDS)
     except OSError as fault:
         raise Trouble(page.certificate, f"TLS can't be begun: {fault}", "look at page.certificate and page.key") from None
 

@@ -4,7 +4,6 @@ from __future__ import annotations
 import errno
 import io
 import logging
-import os
 import socket
 import ssl
 import threading
@@ -20,6 +19,7 @@ from cheroot.wsgi import Server
 
 from ..config import Page
 from .app import MOST_BODY, MOST_HEAD
+from .certificates import CertificateFiles
 
 log = logging.getLogger("wmbus")
 
@@ -131,26 +131,23 @@ class Adapter(BuiltinSSLAdapter):
 
     said = ""
 
-    def __init__(self, page: Page, seconds: float) -> None:
-        self.page, self.places, self.seconds = page, Places(), seconds
-        self.read = self._files()
-        super().__init__(page.certificate, page.key)
+    def __init__(self, files: CertificateFiles, seconds: float) -> None:
+        self.files, self.places, self.seconds = files, Places(), seconds
+        self.read = files.seen()
+        with files.opened() as (certificate, key):
+            super().__init__(certificate, key)
         self.context.sslsocket_class = InTime
-
-    def _files(self) -> list[tuple[int, int, int]]:
-        """By what it is seen that a certificate or key was renewed, or may be read now."""
-        told = [os.stat(path) for path in (self.page.certificate, self.page.key)]
-        return [(it.st_ino, it.st_size, it.st_ctime_ns) for it in told]
 
     def _renew(self) -> None:
         """Takes a certificate that was renewed since the last connection; as long as it can't be taken that of before counts."""
         try:
-            if self.read == (found := self._files()):
+            if self.read == (found := self.files.seen()):
                 return
             self.read = found
             context = ssl.create_default_context(ssl.Purpose.CLIENT_AUTH)
-            # (nobody is there who could be asked for the password of a key)
-            context.load_cert_chain(self.page.certificate, self.page.key, password="")
+            with self.files.opened() as (certificate, key):
+                # (nobody is there who could be asked for the password of a key)
+                context.load_cert_chain(certificate, key, password="")
             context.sslsocket_class = InTime
             self.context, self.said = context, ""
             log.info("the certificate was renewed")
@@ -200,11 +197,11 @@ class PageServer(Server):
         inner.process_conn(conn)
 
 
-def server_of(app: object, page: Page, threads: int, seconds: float) -> Any:
+def server_of(app: object, page: Page, files: CertificateFiles, threads: int, seconds: float) -> Any:
     """The server, which doesn't listen yet. So many answers are made at once, and a request has so many seconds."""
     server: Any = PageServer((page.host, page.port), in_turn(app, threads), numthreads=PLACES, server_name="wmbus")
     server.request_queue_size = 2 * PLACES
-    server.ssl_adapter = Adapter(page, seconds)
+    server.ssl_adapter = Adapter(files, seconds)
     server.ConnectionClass = Connection
     server.max_request_header_size, server.max_request_body_size = MOST_HEAD, MOST_BODY
     return server

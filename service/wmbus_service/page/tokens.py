@@ -5,11 +5,36 @@ import logging
 import secrets
 import threading
 from collections import OrderedDict
+from hmac import compare_digest
+from typing import Protocol
 
 log = logging.getLogger("wmbus")
 
 # after so many wrong tokens within so long an address has to wait; so many addresses are known, and so many wrong tokens told of at most
 MOST_WRONG, SECONDS, MOST_ADDRESSES, MOST_TOLD = 5, 60.0, 1000, 60
+# after so long the token is asked for again
+ENTERED_SECONDS = 12 * 3600
+
+
+class HasToWait(Exception):
+    """Too many wrong tokens came from an address of late."""
+
+
+class Guarding(Protocol):
+    """Who judges tokens, and knows the sessions that gave the right one."""
+
+    @property
+    def has_token(self) -> bool:
+        """Whether there is a token: without one nobody may write."""
+
+    def enter(self, token: str, address: str, now: float) -> str | None:
+        """A session at an address gives a token; the word by which it is known, none where the token is wrong."""
+
+    def leave(self, word: object) -> None:
+        """A session leaves."""
+
+    def is_in(self, word: object, now: float) -> bool:
+        """Whether a session has given the token, and not too long ago."""
 
 
 class Entered:
@@ -66,3 +91,32 @@ class Wrong:
 
     def _of(self, address: str, now: float) -> list[float]:
         return [it for it in self.moments.get(address, []) if 0 <= now - it < SECONDS]
+
+
+class Guard:
+    """A token, the sessions that gave it, and who gave wrong ones."""
+
+    def __init__(self, token: str | None) -> None:
+        self.token, self.entered, self.wrong = token, Entered(ENTERED_SECONDS), Wrong()
+
+    @property
+    def has_token(self) -> bool:
+        """Whether there is a token."""
+        return self.token is not None
+
+    def enter(self, token: str, address: str, now: float) -> str | None:
+        """A session at an address gives a token; the word by which it is known, none where the token is wrong."""
+        if self.wrong.has_to_wait(address, now):
+            raise HasToWait
+        if self.token is None or not compare_digest(token.encode(), self.token.encode()):
+            self.wrong.add(address, now)
+            return None
+        return self.entered.enter(now)
+
+    def leave(self, word: object) -> None:
+        """A session leaves, with each copy of it."""
+        self.entered.leave(word)
+
+    def is_in(self, word: object, now: float) -> bool:
+        """Whether a session has given the token, and not too long ago."""
+        return self.has_token and self.entered.is_in(word, now)

@@ -145,20 +145,27 @@ READINGS = ("select moment, reading.address, meter.name, counter, quantity, valu
             " and (moment, reading.id) > (?, ?) and (moment, reading.id) <= (?, ?) order by moment, reading.id, record.place")
 
 
-def readings_csv(database: Database, addresses: list[str], begin: int, end: int) -> Iterator[str]:
-    """The values of some meters' readings in a span, as lines of CSV."""
+# up to which reading a piece goes, by its moment and id, and its rows
+Piece = tuple[tuple[int, int], list[tuple[Any, ...]]]
+
+
+def readings_csv(addresses: list[str], begin: int, piece_of: Callable[[str, tuple[int, int]], Piece | None]) -> Iterator[str]:
+    """The values of some meters' readings from a moment on, as lines of CSV, piece by piece."""
     yield _csv_line(HEAD)
     for address in addresses:
-        for moment, meter, name, counter, quantity, value, exponent, *rest in _values(database, address, begin, end):
-            yield _csv_line((moment, meter, name_cell(name or ""), counter, quantity, exact(value, exponent), *rest))
+        behind = begin, 0
+        while piece := piece_of(address, behind):
+            behind, rows = piece
+            for moment, meter, name, counter, quantity, value, exponent, *rest in rows:
+                yield _csv_line((moment, meter, name_cell(name or ""), counter, quantity, exact(value, exponent), *rest))
 
 
-def _values(database: Database, address: str, begin: int, end: int) -> Iterator[tuple[Any, ...]]:
-    """The values of a meter's readings in a span, piece by piece."""
-    behind = begin, 0
-    while piece := database.execute(LAST_OF_PIECE, (address, behind[0], end, *behind, PIECE)).fetchall():
-        yield from database.execute(READINGS, (address, behind[0], end, *behind, *piece[-1])).fetchall()
-        behind = piece[-1]
+def piece_of_readings(database: Database, end: int, address: str, behind: tuple[int, int]) -> Piece | None:
+    """The values of a meter's next readings up to a moment; none where there are no further ones."""
+    piece = database.execute(LAST_OF_PIECE, (address, behind[0], end, *behind, PIECE)).fetchall()
+    if not piece:
+        return None
+    return piece[-1], database.execute(READINGS, (address, behind[0], end, *behind, *piece[-1])).fetchall()
 
 
 def _csv_line(fields: tuple[object, ...]) -> str:

@@ -72,9 +72,9 @@ class FleetDoor:
                 return None
             return commands.cancel_command(database, ident, now)
 
-    def add_meter(self, line: str, name: str) -> bool:
-        """Adds a meter by what stands in its line of a roster; whether it is new."""
-        address = line.split(" ")[1]
+    def add_meter(self, address: str, mode: str, key: str, name: str) -> bool:
+        """Adds a meter; whether it is new."""
+        line = f"meter {address} {mode} {key} - - 0 0"
         with store.connect(self.config.database) as database:
             own = store.setting(database, "own")
             if own is None:
