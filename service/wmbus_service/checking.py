@@ -291,6 +291,7 @@ def look_at_page(told: Page | None) -> None:
     assert told
     servers().look_at_page(told)
     if told.certificate:
-        servers().server_with_tls(None, told)
+        serving = servers()
+        serving.server_with_tls(None, told, serving.CertificateFiles(told))
         look_at_certificate(told.certificate, time.time())
         look_at_key(told.key or told.certificate)
