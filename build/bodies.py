@@ -29,6 +29,8 @@ KEPT = re.compile(r"\bghost (?:view|coded|invariant) = (?=\{)")
 NAMED = re.compile(r"\bghost use ([^;{]*)\{([^};]*)\};")
 STRUCT = re.compile(r"(\bstruct \w+[^{};()]*\{\n)([^}]*)\}")
 FIELD = re.compile(r"^(?=    (?:pub\b|\w+:))", re.M)
+# the release that a program prints, on which no body depends
+RELEASE = re.compile(r'^(const VERSION: &str = "\w+ )[\d.]+', re.M)
 
 
 def read(path):
@@ -288,11 +290,12 @@ def seen_by(crate):
 def sum_of_trial(crate):
     """A sum of all that says whether a crate's bodies are wrong: its sources and definitions, the bodies, what it can see of the crates below,
     wherever that stands there, and the logic. Proofs are none of it, nor what a toolchain is called: where a body breaks a contract no proof can
-    help it."""
+    help it. Nor is the number of the release."""
     folder, total = f"{TOP}/crates/{crate}", hashlib.sha256(f"{logic_of(toolchain())} {known_crates()[crate]}\n".encode())
     for part in ("src", "specs", "must-fail"):
         for path in files_below(f"{folder}/{part}"):
-            total.update(f"{os.path.relpath(path, folder)}\n{read(path)}".encode())
+            text = RELEASE.sub(r"\1", read(path))
+            total.update(f"{os.path.relpath(path, folder)}\n{text}".encode())
     for text in sorted(part.text for part in seen_by(crate)):
         total.update(f"{text}\n".encode())
     return total.hexdigest()

@@ -46,7 +46,7 @@ can't be opened. After 5 and 8 the lines before are listed. docs/FORMATS.md says
 docs/address_list.1 is the man page
 ";
 
-const VERSION: &str = "address_list 0.1.0\n";
+const VERSION: &str = "address_list 0.9.0\n";
 
 // Says what an end means, unless there is nothing to say, and ends with its status.
 fn end(rt: &impl Eprint, end: LinesEnd) -> ExitCode

@@ -64,7 +64,7 @@ docs/FORMATS.md says what each fault, refusal and message means and what to do a
 it; docs/frame_inspect.1 is the man page.
 ";
 
-const VERSION: &str = "frame_inspect 0.1.0\n";
+const VERSION: &str = "frame_inspect 0.9.0\n";
 
 // How a status is said.
 fn said(code: u8) -> Numbered {

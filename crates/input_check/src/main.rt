@@ -57,7 +57,7 @@ docs/FORMATS.md says what each fault, refusal and message means and what to do a
 it; docs/input_check.1 is the man page.
 ";
 
-const VERSION: &str = "input_check 0.1.0\n";
+const VERSION: &str = "input_check 0.9.0\n";
 
 // Says what a status means, unless there is nothing to say, and ends with it.
 fn end(rt: &impl Eprint, status: CheckStatus) -> ExitCode

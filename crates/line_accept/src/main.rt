@@ -59,7 +59,7 @@ docs/FORMATS.md says what each fault, answer and message means and what to do ab
 it; docs/line_accept.1 is the man page.
 ";
 
-const VERSION: &str = "line_accept 0.1.0\n";
+const VERSION: &str = "line_accept 0.9.0\n";
 
 // How a status of the program's own is said.
 fn said(code: u8) -> Numbered {

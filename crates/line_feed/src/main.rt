@@ -88,7 +88,7 @@ memory, 11 FILE can't be opened, another program appends to it or it isn't one o
 docs/FORMATS.md says what each reason means, and docs/line_feed.1 is the man page
 ";
 
-const VERSION: &str = "line_feed 0.1.0\n";
+const VERSION: &str = "line_feed 0.9.0\n";
 
 // Says what a status means, unless there is nothing to say, and ends with it.
 fn end(rt: &impl Eprint, status: FeedStatus) -> ExitCode

@@ -58,7 +58,7 @@ than 15,359 bytes, 10 no memory, 11 a file that can't be opened. After 5 and 8 t
 before are written. docs/FORMATS.md says more, docs/line_merge.1 is the man page
 ";
 
-const VERSION: &str = "line_merge 0.1.0\n";
+const VERSION: &str = "line_merge 0.9.0\n";
 
 // Says what a status means, unless there is nothing to say, and ends with it.
 fn end(rt: &impl Eprint, status: MergeStatus) -> ExitCode

@@ -36,7 +36,7 @@ docs/FORMATS.md says what each fault, refusal and message means and what to do a
 it; docs/meter_name.1 is the man page.
 ";
 
-const VERSION: &str = "meter_name 0.1.0\n";
+const VERSION: &str = "meter_name 0.9.0\n";
 
 // Says what a status means, unless all is done, and ends with it.
 fn end(rt: &impl Eprint, status: NameStatus) -> ExitCode

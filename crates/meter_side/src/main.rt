@@ -37,7 +37,7 @@ docs/FORMATS.md says what each fault, refusal and message means and what to do a
 it; docs/meter_side.1 is the man page.
 ";
 
-const VERSION: &str = "meter_side 0.1.0\n";
+const VERSION: &str = "meter_side 0.9.0\n";
 
 // How a status of the program's own is said.
 fn said(code: u8) -> Numbered {

@@ -53,7 +53,7 @@ goes past 1,073,741,824 bytes, 10 no memory, 11 a file that can't be opened.
 docs/FORMATS.md says what each fault means, docs/reading_list.1 is the man page
 ";
 
-const VERSION: &str = "reading_list 0.1.0\n";
+const VERSION: &str = "reading_list 0.9.0\n";
 
 // Says what a status means, unless there is nothing to say, and ends with it.
 fn end(rt: &impl Eprint, status: ListStatus) -> ExitCode

@@ -43,7 +43,7 @@ docs/FORMATS.md says what each fault and message means and what to do about it;
 docs/state_merge.1 is the man page.
 ";
 
-const VERSION: &str = "state_merge 0.1.0\n";
+const VERSION: &str = "state_merge 0.9.0\n";
 
 const PROGRAM: &str = "state_merge";
 

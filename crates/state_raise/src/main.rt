@@ -41,7 +41,7 @@ docs/FORMATS.md says what each fault and message means and what to do about it;
 docs/state_raise.1 is the man page.
 ";
 
-const VERSION: &str = "state_raise 0.1.0\n";
+const VERSION: &str = "state_raise 0.9.0\n";
 
 const PROGRAM: &str = "state_raise";
 

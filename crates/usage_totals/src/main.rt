@@ -67,7 +67,7 @@ docs/FORMATS.md says what each fault, refusal and message means and what to do a
 it; docs/usage_totals.1 is the man page.
 ";
 
-const VERSION: &str = "usage_totals 0.1.0\n";
+const VERSION: &str = "usage_totals 0.9.0\n";
 
 // How a status is said.
 fn said(code: u8) -> Numbered {

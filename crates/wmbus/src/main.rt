@@ -80,7 +80,7 @@ docs/FORMATS.md says what each fault, refusal and message means and what to do a
 it; docs/wmbus.1 is the man page.
 ";
 
-const VERSION: &str = "wmbus 0.1.0\n";
+const VERSION: &str = "wmbus 0.9.0\n";
 
 // Ends a run that can't begin.
 fn end_unopened(rt: &impl Eprint, unopened: Unopened) -> ExitCode
