@@ -5,7 +5,7 @@ ghost use Rattle.outer_io.specs.Faults.{Rose};
 
 use crate::line_file::LineFile;
 use outer_io::{Failed, Sink};
-use program_words::cannot_open;
+use program_words::{cannot_open, taken_streams};
 use std::fs::{File, Files, OpenOptions, TryLockError};
 use std::io::{ErrorKind, Write};
 use std::os::unix::fs::FileExt;
@@ -121,6 +121,7 @@ pub(crate) fn open_appended<R: Eprint + Files<File = File>>(
 ) -> Result<AppendedFile, ExitCode>
     ensures { IfErr result (λ ended. exit_status ended ≡ 11) }
 {
+    let _streams = taken_streams(rt);
     match OpenOptions::new()
         .read(true)
         .append(true)

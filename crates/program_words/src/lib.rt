@@ -8,6 +8,6 @@ mod own_texts;
 mod words;
 
 pub use ending::{Numbered, cannot_open, end};
-pub use opening::{open_to_read, open_to_write};
+pub use opening::{open_to_read, open_to_write, taken_streams};
 pub use own_texts::{OwnText, own_text, tell};
 pub use words::{NoWords, command_words};

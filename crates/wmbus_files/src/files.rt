@@ -9,7 +9,7 @@ ghost use Rattle.wmbus_files.specs.Unopened.{IsUnopened};
 use crate::nodes::{Unopened, differ, next_differs, room_of};
 use crate::watched::WatchedSource;
 use outer_io::{StdSink, StdSource};
-use program_words::{open_to_read, open_to_write};
+use program_words::{open_to_read, open_to_write, taken_streams};
 use receivers::Receiver;
 use std::fs::{File, Files};
 use wmbus_words::{Plan, StepsPlan};
@@ -48,16 +48,6 @@ pub struct StepsFiles {
     pub receiver: StdSource,
     /// How many bytes of what is told may wait.
     pub room: usize,
-}
-
-// Files that take numbers of standard streams with which the program was started closed. A file that was opened before and these take all of
-// them, so that nothing that is printed goes into a file that is written; they can't be written, and so what is printed fails as over a
-// closed stream.
-fn taken_streams<R: Files<File = File>>(rt: &R) -> [Option<File>; 2] {
-    [
-        File::open(rt, "/dev/null").ok(),
-        File::open(rt, "/dev/null").ok(),
-    ]
 }
 
 // Opens a file that is read. Where it can't be opened that is said.
