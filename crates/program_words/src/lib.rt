@@ -5,9 +5,11 @@
 mod ending;
 mod opening;
 mod own_texts;
+mod streams;
 mod words;
 
 pub use ending::{Numbered, cannot_open, end};
-pub use opening::{open_to_read, open_to_write, taken_streams};
+pub use opening::{open_to_read, open_to_write};
 pub use own_texts::{OwnText, own_text, tell};
+pub use streams::taken_streams;
 pub use words::{NoWords, command_words};

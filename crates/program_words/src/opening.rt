@@ -8,16 +8,6 @@ use std::fs::{File, Files};
 use std::os::unix::fs::OpenOptionsExt;
 use std::process::ExitCode;
 
-/// Files that take the numbers of the standard streams with which the program was started closed, as long as they are kept: a file that is opened
-/// meanwhile gets none of these, so nothing that is printed goes into it. They can't be written, so what is printed fails as over a closed stream.
-pub fn taken_streams<R: Files<File = File>>(rt: &R) -> [Option<File>; 3] {
-    [
-        File::open(rt, "/dev/null").ok(),
-        File::open(rt, "/dev/null").ok(),
-        File::open(rt, "/dev/null").ok(),
-    ]
-}
-
 /// The file of this name, to be read; or status 11, after naming the file.
 pub fn open_to_read<R: Eprint + Files<File = File>>(
     rt: &R,

@@ -118,9 +118,15 @@ def in_turn(app: Any, most: int) -> Any:
     def answer(environ: dict[str, Any], begin: Any) -> Any:
         try:
             content = environ["wsgi.input"].read(MOST_BODY)
-        except (ValueError, MaxSizeExceeded):
-            # (chunks that are none, or too long: such a form isn't whole)
+        except ValueError:
+            # (chunks that are none: such a form isn't whole)
             content = b""
+        except ConnectionError:
+            raise
+        except (MaxSizeExceeded, OSError):
+            # (where chunks have more than the limit the server's reader says either of the two)
+            begin("413 Request Entity Too Large", [("Content-Length", "0"), ("Connection", "close")])
+            return []
         with turns:
             return app(environ | {"wsgi.input": io.BytesIO(content)}, begin)
     return answer
