@@ -2,6 +2,7 @@
 from __future__ import annotations
 
 import errno
+import json
 import os
 import shutil
 import sqlite3
@@ -22,7 +23,9 @@ from wmbus_service.service import Service
 from wmbus_service.trouble import Trouble
 from wmbus_service.troubles import Troubles, troubles_of
 
+from telegrams import messages
 from . import servers
+from .meters import line_of, payload_of
 from .processes import PATIENCE, certificate_of, until
 from .test_commandline import ADDRESS, KEY, OWN, Place, place_fixture  # noqa: F401
 from .test_sessions import NOW, House, house_fixture  # noqa: F401
@@ -123,12 +126,12 @@ def test_a_database_of_before_is_marked(place: Place) -> None:
 
 
 def test_an_entry_of_the_spool_that_cant_be_read(house: House, monkeypatch: pytest.MonkeyPatch, caplog: pytest.LogCaptureFixture) -> None:
-    """It alone stands still, whatever it is, and is told once in the log, and by status and the page as long as it is so; all others are
-    heard, of its receiver too."""
+    """It alone stands still, whatever it is, a link by which lines would be heard twice too, and is told once in the log, and by status and
+    the page as long as it is so; all others are heard, of its receiver too."""
     served, failing = Service(house.config, house.database), [house.spool(house.whole(house.meters[0]))]
     (house.config.spool / "attic.00000003.1.lines").mkdir()
     os.mkfifo(house.config.spool / "attic.00000004.1.lines")
-    (house.config.spool / "attic.00000005.1.lines").symlink_to("attic.00000005.1.lines")
+    (house.config.spool / "attic.00000005.1.lines").symlink_to("attic.00000006.1.lines")
     house.files = 6
     house.spool(house.whole(house.meters[1]))
     house.spool("A 1 00\n", "roof")
@@ -140,7 +143,7 @@ def test_an_entry_of_the_spool_that_cant_be_read(house: House, monkeypatch: pyte
         return opened(path)
     monkeypatch.setattr(spool, "open_lines", broken)
     assert served.turn() == 2 and served.turn() == 0
-    wrong = {"1": "Input/output error", "3": "it is no file", "4": "it is no file", "5": "Too many levels of symbolic links"}
+    wrong = {"1": "Input/output error", "3": "it is no file", "4": "it is no file", "5": "it is a link"}
     told = status.status(house.config, False)
     shown = [it.to_do for it in looks.all_looks(house.config, house.database, [], [], NOW)]
     for number, words in wrong.items():
@@ -148,6 +151,66 @@ def test_an_entry_of_the_spool_that_cant_be_read(house: House, monkeypatch: pyte
         assert caplog.text.count(said) == told.count(said) == sum(said in it for it in shown) == 1
     failing.clear()
     assert served.turn() == 1 and len(house.all("select id from reading")) == 2
+
+
+def test_names_in_the_spool(house: House, caplog: pytest.LogCaptureFixture) -> None:
+    """A file whose name is none of a receiver's isn't heard, neither under its name nor under one that fits others, and is told once in the
+    log, and by status and the page; it ends no service, whatever signs it has."""
+    served = Service(house.config, house.database)
+    names = [b"*", b"att[i]c", b"x", b"", b"att\xffic", b"a\nb", "\u00e4".encode(), b"attic (copy)"]
+    for name in names:
+        whole = name + (b".00000001.1.lines" if len(name) != 1 or name == b"*" else b".lines")
+        (house.config.spool / os.fsdecode(whole)).write_text(house.whole(house.meters[0]))
+    house.spool(house.whole(house.meters[1]))
+    house.spool(house.whole(house.meters[2]), "roof")
+    assert served.turn() == 2 and served.turn() == 0
+    told = status.status(house.config, False)
+    shown = "\n".join(it.to_do for it in looks.all_looks(house.config, house.database, [], [], NOW))
+    for text in (caplog.text, told, shown):
+        assert text.count("its name isn't RECEIVER.NUMBER.MADE.lines") == len(names) and text.encode() and "a\\nb.0" in text
+    assert json.loads(status.status(house.config, True))["spooled_bytes"] == 0
+
+
+def test_a_spool_file_that_is_cut(house: House, caplog: pytest.LogCaptureFixture) -> None:
+    """Nobody knows which lines of a file were heard that is shorter than what was taken of it: it is told, isn't heard, and stays."""
+    served = Service(house.config, house.database)
+    path = house.spool("".join(house.whole(house.meters[0]) for _ in range(3)))
+    assert served.turn() == 3
+    path.write_text(house.whole(house.meters[0]))
+    house.spool(house.whole(house.meters[1]))
+    assert served.turn() == 1 and path.exists()
+    said = f"{path.name}: it can't be read, and its lines aren't heard: it is shorter than what was taken of it"
+    told = status.status(house.config, False)
+    shown = [it.to_do for it in looks.all_looks(house.config, house.database, [], [], NOW)]
+    assert caplog.text.count(said) == told.count(said) == sum(said in it for it in shown) == 1
+
+
+def test_a_spool_file_that_comes_back(house: House) -> None:
+    """One that is moved away and back isn't heard again, in mode 5 neither; places are kept of so many files alone."""
+    served, meter = Service(house.config, house.database), house.meters[2]
+    path = house.spool(line_of(messages.whole_5(meter.key, meter.address, 1, payload_of(1)), 100))
+    assert meter.mode == 5 and served.turn() == 1
+    path.rename(away := house.config.folder / "away")
+    house.spool(line_of(messages.whole_5(meter.key, meter.address, 2, payload_of(2)), 101))
+    assert served.turn() == 1
+    away.rename(path)
+    assert served.turn() == 0 and house.all("select count(*) from reading") == [2]
+    for _ in range(spool.KEPT_PLACES + 5):
+        house.spool("A 1 00\n")
+    while served.turn():
+        pass
+    assert house.all("select count(*) from source") == [spool.KEPT_PLACES + 1]
+
+
+def test_a_spool_that_is_gone(house: House) -> None:
+    """That its folder is gone is said with what to do; once receivers made it again lines are heard."""
+    served = Service(house.config, house.database)
+    house.config.spool.rename(house.config.folder / "away")
+    with pytest.raises(Trouble, match="is gone, and nothing is heard; start the receivers again"):
+        served.turn()
+    house.config.spool.mkdir(0o700)
+    house.spool(house.whole(house.meters[0]))
+    assert served.turn() == 1
 
 
 def test_trouble_is_told_at_once(house: House, monkeypatch: pytest.MonkeyPatch) -> None:

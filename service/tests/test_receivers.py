@@ -14,6 +14,7 @@ import socket
 import subprocess
 import sys
 import threading
+import time
 import tty
 from collections.abc import Callable
 from contextlib import suppress
@@ -239,6 +240,28 @@ def test_a_spool_file_that_is_deleted(tmp_path: Path) -> None:
     finally:
         assert heard.child.end(signal.SIGTERM) == 0, heard.log.read_text()
     assert heard.log.read_text().count("begins another one") == 6
+
+
+def test_a_spool_file_that_is_cut(tmp_path: Path) -> None:
+    """A receiver whose file is cut, as by who wants room on the disk, writes into a new one: nobody reads what comes below its place."""
+    os.mkfifo(tmp_path / "radio")
+    heard = Heard(tmp_path, Receiver(command=f"cat {tmp_path}/radio", format="hex"))
+    telegram = telegram_of(FRAME)
+    try:
+        with open(tmp_path / "radio", "w", encoding="ascii", buffering=1) as radio:
+            radio.write(f"{telegram}\n")
+            until(lambda: heard.text().endswith(f"{FRAME}\n"))
+            (path,) = heard.config.spool.glob("*.lines")
+            # (its size is looked at so often)
+            time.sleep(receiving.PAUSE + 0.5)
+            os.truncate(path, 0)
+            until(lambda: "begins another one" in heard.log.read_text())
+            radio.write(f"{telegram}\n")
+            until(lambda: heard.text().endswith(f"{FRAME}\n"))
+            assert not path.exists() or not path.stat().st_size
+    finally:
+        assert heard.child.end(signal.SIGTERM) == 0, heard.log.read_text()
+    assert "its file of the spool was cut, and it begins another one" in heard.log.read_text()
 
 
 def test_a_program_that_hangs(tmp_path: Path, monkeypatch: pytest.MonkeyPatch) -> None:

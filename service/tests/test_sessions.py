@@ -224,7 +224,7 @@ def test_whole_lines_alone(house: House) -> None:
     house.hear()
     assert [path.exists(), later.exists()] == [False, True]
     house.hear()
-    assert house.all("select file, taken from source") == [(later.name, len(third))]
+    assert house.all("select file, taken from source order by file") == [(path.name, len(first + second)), (later.name, len(third))]
 
 
 def test_a_file_that_would_come_back(house: House, monkeypatch: pytest.MonkeyPatch) -> None:
@@ -238,6 +238,7 @@ def test_a_file_that_would_come_back(house: House, monkeypatch: pytest.MonkeyPat
         if os.readlink(f"/proc/self/fd/{opened}") == str(house.config.spool):
             synced.append((first.exists(), len(house.all("select file from source"))))
     monkeypatch.setattr(spool, "sync", sync)
+    monkeypatch.setattr(spool, "KEPT_PLACES", 0)
     house.hear()
     house.sessions.next(NOW)
     assert not first.exists() and len(house.all("select file from source")) == 1
@@ -284,13 +285,14 @@ def test_lines_behind_long_ones(house: House) -> None:
     assert house.all("select text from line order by number desc limit 1") == [f"T {house.meters[1].name}"]
 
 
-def test_files_that_went(house: House) -> None:
-    """Of files that are taken away nothing is held, however often a receiver begins anew."""
+def test_files_that_went(house: House, monkeypatch: pytest.MonkeyPatch) -> None:
+    """Of files that are taken away nothing is held but the last ones' places, however often a receiver begins anew."""
+    monkeypatch.setattr(spool, "KEPT_PLACES", 3)
     for _ in range(10):
         house.spool(house.whole(house.meters[0]))
         house.hear()
     assert len(house.sessions.spools[0].synced) <= 2
-    assert len(house.all("select file from source")) <= 2
+    assert len(house.all("select file from source")) <= 5
 
 
 @pytest.mark.parametrize("asked", [1, 2, 3])

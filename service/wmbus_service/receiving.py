@@ -204,13 +204,14 @@ class Receiving:
     def _pass_on(self, printed: int, feed: subprocess.Popen[bytes], opened: int, content: bytes) -> bytes | None:
         """Passes on what the radio prints, until the file is great enough: then up to the end of a line. What is left; none once it ended."""
         assert feed.stdin is not None
-        begun = b""
+        begun, size = b"", 0
         while not self.ending.is_set() and feed.poll() is None:
             told = os.fstat(opened)
-            if not told.st_nlink:
+            if not told.st_nlink or told.st_size < size:
                 # (nobody finds what is written there; the line that was begun goes into the next one whole)
-                log.warning("%s: its file of the spool was deleted, and it begins another one", self.name)
+                log.warning("%s: its file of the spool was %s, and it begins another one", self.name, "cut" if told.st_nlink else "deleted")
                 return begun + content
+            size = told.st_size
             place = content.find(b"\n") + 1 if told.st_size >= MOST_BYTES - ROOM else 0
             put(feed.stdin.fileno(), content[:place] if place else content)
             if place:

@@ -11,7 +11,7 @@ from . import events, store
 from .config import Config, words_of
 from .events import Event
 from .publications import Publications, Waiting
-from .spool import Spool, put_places
+from .spool import Spool, misnamed, put_places, receiver_of
 from .steps import ProgramFailed, Told, run_steps, state_text
 from .trouble import Trouble
 from .writing import Writing
@@ -30,6 +30,8 @@ class Sessions:
     def __init__(self, config: Config, database: sqlite3.Connection) -> None:
         self.config, self.database = config, database
         self.spools = [Spool(config.spool, name) for name in config.receivers]
+        # of which files the log has it that their names are none of a receiver's
+        self.misnamed: list[str] = []
         # how many lines the next session takes: fewer after one that the program failed at
         self.most = MOST
         # the line alone at which the program failed last
@@ -55,8 +57,15 @@ class Sessions:
     def _look_for_receivers(self) -> None:
         """A receiver that has another name now, or is no more, may have left lines, and one that came into the configuration since then
         has some."""
-        found = {path.name.split(".")[0] for path in self.config.spool.glob("*.lines")}
+        if not self.config.spool.is_dir():
+            raise Trouble(self.config.spool, "the folder of receivers' lines is gone, and nothing is heard",
+                          "start the receivers again (systemctl restart 'wmbus-receiver@*'): they make it")
+        found = {name for path in self.config.spool.glob("*.lines") if (name := receiver_of(path.name))}
         self.spools += [Spool(self.config.spool, name) for name in sorted(found - {spool.receiver for spool in self.spools})]
+        told, self.misnamed = self.misnamed, misnamed(self.config.spool)
+        for words in self.misnamed:
+            if words not in told:
+                log.error("%s", words)
 
     def _hear(self, batch: Sequence[Event], now: float) -> None:
         """Has the program hear the lines, and writes what it said."""

@@ -6,6 +6,7 @@ import errno
 import fcntl
 import logging
 import os
+import re
 import sqlite3
 import stat
 from contextlib import suppress
@@ -14,11 +15,17 @@ from itertools import accumulate
 from pathlib import Path
 from typing import BinaryIO
 
+from .asking import Database
+
 log = logging.getLogger("wmbus")
 
 # a line of the grammar has 1,024 bytes at most; of a longer one so many are kept, and the program calls it bad
 LONGEST = 1_100
 CHUNK = 1 << 20
+# the name of a receiver's file: the receiver's, which a configuration takes, a number, and when it was made
+FILE = re.compile(r"([a-z0-9_-]{1,64})\.[0-9]+\.[0-9]+\.lines", re.ASCII)
+# places of so many files that are gone are kept, so that one that comes back isn't heard again
+KEPT_PLACES = 100
 
 
 @dataclass(frozen=True)
@@ -42,7 +49,7 @@ class Spool:
 
     def files(self) -> list[Path]:
         """The files, the oldest first."""
-        return sorted(self.folder.glob(f"{self.receiver}.*.lines"))
+        return files_of(self.folder, self.receiver)
 
     def take(self, database: sqlite3.Connection, most: int) -> list[Spooled]:
         """At most so many whole lines behind the committed places, all of which stand on the disk."""
@@ -75,7 +82,7 @@ class Spool:
     def _take_of(self, path: Path, start: int, most: int) -> list[Spooled]:
         """The lines of a file from a place on."""
         with open_lines(path) as file:
-            if os.fstat(file.fileno()).st_size == start:
+            if not has_more(file, start):
                 return []
             self._sync(path, file.fileno())
             file.seek(start)
@@ -108,16 +115,37 @@ class Spool:
                     path.unlink()
         names = {path.name for path in files}
         self.synced &= names
-        told = database.execute("select file from source where receiver = ?", (self.receiver,)).fetchall()
-        if gone := [(self.receiver, name) for (name,) in told if name not in names]:
+        told = database.execute("select file from source where receiver = ? order by file", (self.receiver,)).fetchall()
+        gone = [(self.receiver, name) for (name,) in told if name not in names]
+        if gone := gone[:max(0, len(gone) - KEPT_PLACES)]:
             # (a place is forgotten once it stands on the disk that its file went, so that no file comes back behind it)
             sync_names(self.folder)
             database.executemany("delete from source where receiver = ? and file = ?", gone)
 
 
+def receiver_of(name: str) -> str | None:
+    """The receiver whose file has this name; none where it is no name of one."""
+    found = FILE.fullmatch(name)
+    return found[1] if found else None
+
+
+def files_of(folder: Path, receiver: str) -> list[Path]:
+    """A receiver's files, the oldest first."""
+    return sorted(path for path in folder.glob("*.lines") if receiver_of(path.name) == receiver)
+
+
+def has_more(file: BinaryIO, taken: int) -> bool:
+    """Whether a file has something behind its place; one that was cut is a fault, as nobody knows which of its lines were heard."""
+    size = os.fstat(file.fileno()).st_size
+    if size < taken:
+        raise OSError(errno.EIO, "it is shorter than what was taken of it")
+    return size > taken
+
+
 def open_lines(path: Path) -> BinaryIO:
-    """A file of lines, opened; what is none, as a folder or a pipe, which would be waited for, is a fault."""
-    opened = os.open(path, os.O_RDONLY | os.O_NONBLOCK | os.O_CLOEXEC)
+    """A file of lines, opened; what is none, as a folder or a pipe, which would be waited for, or a link, whose lines may be heard under
+    another name too, is a fault."""
+    opened = os.open(path, os.O_RDONLY | os.O_NONBLOCK | os.O_NOFOLLOW | os.O_CLOEXEC)
     if not stat.S_ISREG(os.fstat(opened).st_mode):
         os.close(opened)
         raise OSError(errno.EINVAL, "it is no file")
@@ -126,15 +154,27 @@ def open_lines(path: Path) -> BinaryIO:
 
 def unread_words(path: Path, fault: OSError) -> str:
     """What is said of an entry of the spool that can't be read."""
-    return f"{path}: it can't be read, and its lines aren't heard: {fault.strerror}; look at it and at the disk, or move it away"
+    why = "it is a link" if fault.errno == errno.ELOOP else fault.strerror
+    # (a name may have any sign)
+    name = "".join(sign if sign.isprintable() else ascii(sign)[1:-1] for sign in str(path))
+    return f"{name}: it can't be read, and its lines aren't heard: {why}; look at it and at the disk, or move it away"
 
 
-def unread(folder: Path) -> list[str]:
+def misnamed(folder: Path) -> list[str]:
+    """What is said of files of lines whose name is none of a receiver's file."""
+    fault = OSError(errno.EINVAL, "its name isn't RECEIVER.NUMBER.MADE.lines")
+    return [unread_words(path, fault) for path in sorted(folder.glob("*.lines")) if receiver_of(path.name) is None]
+
+
+def unread(folder: Path, database: Database) -> list[str]:
     """What in the spool can't be read now."""
-    found = []
+    found = misnamed(folder)
     for path in sorted(folder.glob("*.lines")):
+        if (receiver := receiver_of(path.name)) is None:
+            continue
         try:
             with open_lines(path) as file:
+                has_more(file, place_of(database, receiver, path.name))
                 file.read(1)
         except FileNotFoundError:
             continue
@@ -173,7 +213,7 @@ def sync_names(folder: Path) -> None:
         os.close(opened)
 
 
-def place_of(database: sqlite3.Connection, receiver: str, file: str) -> int:
+def place_of(database: Database, receiver: str, file: str) -> int:
     """Up to which byte a file is taken."""
     row = database.execute("select taken from source where receiver = ? and file = ?", (receiver, file)).fetchone()
     return int(row[0]) if row else 0
@@ -190,6 +230,7 @@ def is_finished(path: Path, taken: int) -> bool:
     """Whether no line comes into a file any more and none is left: its writer, which holds a lock on it, has ended. A line that was
     cut off at its end is dropped."""
     with open_lines(path) as file:
+        has_more(file, taken)
         try:
             fcntl.flock(file, fcntl.LOCK_EX | fcntl.LOCK_NB)
         except BlockingIOError:

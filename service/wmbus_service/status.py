@@ -16,7 +16,7 @@ from .meters import day_of
 from .page import radios
 from .retention import DAY, seconds_behind, went_forward
 from .sensors import NUMBER
-from .spool import place_of, size_of, unread, written_at
+from .spool import files_of, place_of, receiver_of, size_of, unread, written_at
 from .troubles import troubles_of
 
 LAST = 10
@@ -54,7 +54,7 @@ def figures(config: Config, database: sqlite3.Connection) -> dict[str, Any]:
                                           f" limit {LAST}"),
         "publications_waiting": database.execute("select count(*) from publication").fetchone()[0],
         "publications_oldest_seconds": round(oldest_publication(database, now)),
-        "spool_unread": unread(config.spool),
+        "spool_unread": unread(config.spool, database),
         "spooled_bytes": waiting_bytes(config, database),
     }
 
@@ -64,7 +64,7 @@ def receivers(config: Config, database: sqlite3.Connection, now: float) -> list[
     found = []
     for radio in radios.receivers(config, database, now):
         if radio.is_configured:
-            waiting = [path for path in config.spool.glob(f"{radio.name}.*.lines")
+            waiting = [path for path in files_of(config.spool, radio.name)
                        if size_of(path) > place_of(database, radio.name, path.name)]
             heard = max([radio.heard or 0.0, *map(written_at, waiting)])
             found.append({"name": radio.name, "age": max(0, round(now - heard)) if heard else None, "was_heard": radio.was_heard})
@@ -109,7 +109,7 @@ def oldest_publication(database: Database, now: float) -> float:
 def waiting_bytes(config: Config, database: Database) -> int:
     """How many bytes of lines no session has taken yet."""
     taken = dict(database.execute("select file, taken from source").fetchall())
-    return sum(max(0, size_of(path) - taken.get(path.name, 0)) for path in config.spool.glob("*.lines"))
+    return sum(max(0, size_of(path) - taken.get(path.name, 0)) for path in config.spool.glob("*.lines") if receiver_of(path.name))
 
 
 def service_words(told: dict[str, Any]) -> Iterator[str]:

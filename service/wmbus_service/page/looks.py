@@ -149,7 +149,7 @@ def _of_service(config: Config, database: Database, now: float) -> Iterator[Look
     for told in troubles_of(config.folder):
         yield Look("bad" if told.part != "MQTT" else "look", "trouble", f"The service: {PARTS.get(told.part, told.part)}", "/receivers",
                    f"Since {time_text(int(told.since))}: {told.words}")
-    for words in unread(config.spool)[:10]:
+    for words in unread(config.spool, database)[:10]:
         yield Look("bad", "can't be read", "The spool", "/receivers", words)
     if waiting_bytes(config, database) > WAITING_BYTES:
         yield Look("look", "lags", "The service", "/receivers", "Many lines wait in the spool. Its log says whether sessions stand still.")
