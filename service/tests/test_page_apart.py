@@ -94,6 +94,8 @@ def apart(page: PageHouse, words: str = "") -> Iterator[Apart]:
         os.chown(place / "run", KEEPER, GROUP)
         (place / "run").chmod(0o710)
         (place / "config.toml").write_text(f'folder = "{made}"\n[page]\nport = 0\n{words.replace("FOLDER", str(made))}')
+        # (whatever the umask is)
+        (place / "config.toml").chmod(0o644)
         first = [sys.executable, "-B", "-m", "wmbus_service"]
         line = [*first, "--config", str(place / "config.toml"), "door", str(place / "run/door")]
         log = held.enter_context(open(place / "door.log", "wb"))
