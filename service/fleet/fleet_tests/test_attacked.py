@@ -273,6 +273,30 @@ def test_what_was_taken_in_an_earlier_epoch_is_not_taken_again(fleet: Fleet, ans
         assert [it for it in answering.inbox() if it] == [*range(1, 36 + 5 * time_of)]
 
 
+def test_a_gap_in_somebody_elses_epoch(fleet: Fleet, answering: Answering) -> None:
+    """What is asked for of it comes to the gateway too: it sends nothing anew that was taken in its own epoch, and goes on with the rest."""
+    fence, _ = fleet.fence()
+    (asked,) = answering.taking.take([Message(fleet.gateway, fence + 5, number, 9, ("A 0 00",)) for number in (1, 3)])
+    assert asked == Again(fleet.gateway, fence + 5, 2)
+    answering.agent.hear(asked_body(asked), answering.now, int(answering.now))
+    answering.sends()
+    answering.hear(5)
+    answering.sends()
+    assert [it for it in answering.inbox() if it] == [*range(1, 36)]
+
+
+def test_many_epochs_in_a_gateways_name(fleet: Fleet, answering: Answering, monkeypatch: pytest.MonkeyPatch) -> None:
+    """Somebody else begins more of them than ends are kept: that of the gateway's own, which is longer, still is, and nothing is taken twice."""
+    monkeypatch.setattr(fences, "ENDS", 20)
+    fence, _ = fleet.fence()
+    for above in range(1, 30):
+        answering.taking.take([Message(fleet.gateway, fence + above, number, 9, ("A 0 00",)) for number in (1, 2)])
+    answering.hear(5)
+    answering.sends()
+    assert [it for it in answering.inbox() if it] == [*range(1, 36)]
+    assert store.one(fleet.database, "select count(*) from ended") == 20
+
+
 def test_one_of_an_earlier_release_is_asked_in_its_words(fleet: Fleet) -> None:
     """It begins an epoch with all that it keeps, as it did; nothing stands still."""
     taking = Intake(fleet.config, fleet.database, "test")

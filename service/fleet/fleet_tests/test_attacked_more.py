@@ -237,6 +237,21 @@ def test_lines_while_a_roster_is_commissioned(fleet: Fleet, monkeypatch: pytest.
     assert store.one(fleet.database, "select count(*) from reading where address = %s", (new.name,)) == 2
 
 
+@pytest.mark.parametrize("hours", [13, 20, 38, 9999])
+def test_a_gateway_that_was_silent_for_half_a_day(fleet: Fleet, hours: int) -> None:
+    """Its rate is none: `status`, the page and the metrics say so, and what it sends next is taken."""
+    taking = Intake(fleet.config, fleet.database, "test")
+    taking.take([Message(fleet.gateway, 5, 1, 9, (LINE,) * 60)])
+    fleet.database.execute("update gateway set seen = seen - %s * interval '1 hour'", (hours,))
+    assert [line for line in in_words(figures(fleet.database)) if line.startswith(f"gateway {fleet.gateway} in {fleet.area}: not heard for ")]
+    assert metrics.take(fleet.config).labelled["gateway_lines_per_second"][fleet.gateway] < 1e-9
+    door = FleetDoor(fleet.config).opened()
+    assert looking.overview(door, time.time())
+    door.close()
+    taking.take([Message(fleet.gateway, 5, 2, 9, (LINE,) * 60)])
+    assert fleet.fence() == (5, 2) and store.one(fleet.database, "select round(rate::numeric, 6) from gateway") == 1
+
+
 def read_of_meters(database: Any, work: Callable[[], object]) -> int:
     """How many rows of meters and refusals PostgreSQL reads for something."""
     def so_far() -> int:

@@ -8,6 +8,7 @@ from dataclasses import dataclass, field
 
 from .messages import Again, Begin, Message, is_far, new_epoch
 from .oddities import SLACK
+from .page_tables import FADED
 from .programs import Fence
 from .store import Database
 
@@ -59,7 +60,7 @@ def put_fences(database: Database, moved: Mapping[str, Fence], told: Mapping[str
         # (what comes behind its end of a gateway that was taken away holds up no tick)
         database.execute(
             "update gateway g set epoch = f.epoch, number = f.number, seen = now(), digests = f.digests::bigint[],"
-            " lines = g.lines + f.lines, rate = g.rate * exp(least(0, extract(epoch from coalesce(g.seen, now()) - now())) / 60) + f.lines / 60.0,"
+            f" lines = g.lines + f.lines, rate = g.rate * {FADED.format(seen='g.seen')} + f.lines / 60.0,"
             " until = case when g.gone is null then f.until else g.until end from"
             " unnest(%s::text[], %s::bigint[], %s::bigint[], %s::bigint[], %s::text[], %s::bigint[])"
             " as f (name, epoch, number, until, digests, lines) where g.name = f.name", tuple(list(column) for column in zip(*rows, strict=True)))
@@ -79,11 +80,12 @@ def put_ends(database: Database, fences: Mapping[str, Fence], taken: Sequence[Me
 
 
 def put_end(database: Database, gateway: str, epoch: int, number: int, now: float) -> None:
-    """Keeps where an epoch of a gateway ended, in the place of its oldest one where there are many."""
+    """Keeps where an epoch of a gateway ended, in the place of its shortest one where there are many: somebody else can begin many short ones
+    in its name."""
     database.execute("insert into ended values (%s, %s, %s, %s) on conflict (gateway, epoch) do update set number ="
                      " greatest(ended.number, excluded.number), made = excluded.made", (gateway, epoch, number, now))
-    database.execute("delete from ended where gateway = %s and epoch in (select epoch from ended where gateway = %s order by made desc"
-                     " offset %s)", (gateway, gateway, ENDS))
+    database.execute("delete from ended where gateway = %s and epoch in (select epoch from ended where gateway = %s"
+                     " order by number desc, made desc offset %s)", (gateway, gateway, ENDS))
 
 
 def put_in_place(database: Database, gateway: str, now: float) -> None:

@@ -157,14 +157,15 @@ class Agent:
             log.error("%s: the fleet said something that isn't understood", self.told.name)
 
     def send_again(self, asked: Again, now: float, published: int | None = None) -> None:
-        """Sends all messages from one on again; those of a new epoch where that one isn't kept any more."""
+        """Sends all messages from one on again; those of a new epoch where that one isn't kept any more. Asked for a later epoch than its own,
+        which somebody else began in its name or it itself before its file was set back, it sends its last message: by that the fleet says how
+        far its own epoch was taken."""
         if self._is_too_far(asked.epoch, now, published):
             return
         with store.transaction(self.database):
             epoch, last = self.numbering()
             if asked.epoch > epoch:
-                # (its state is older than what the fleet knows: nothing of this epoch was taken)
-                self._begin(max(asked.epoch + 1, new_epoch(now)), 1)
+                self.database.execute("update message set acknowledged = 0 where number = ?", (last,))
                 return
             number = asked.number if asked.epoch == epoch else 1
             if number > last:

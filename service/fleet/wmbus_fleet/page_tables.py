@@ -22,8 +22,10 @@ RECORD = """create or replace view page.record as
     from public.reading r cross join lateral json_array_elements(r.records) with ordinality as e (it, place)
     where e.it ->> 'quantity' is not null;"""
 
+# how a gateway's rate falls behind its last message; PostgreSQL has no number for what is left of it behind half a day
+FADED = "exp(greatest(-6000, least(0, extract(epoch from coalesce({seen}, now()) - now()))) / 60)"
 # how many lines a second a gateway sends, as in the last minute
-RATE = "rate * exp(least(0, extract(epoch from coalesce(seen, now()) - now())) / 60)"
+RATE = f"rate * {FADED.format(seen='seen')}"
 
 METER = "create or replace view page.meter as select address, name, gateway as receiver, gateway, heard, retired from public.meter;"
 

@@ -1,7 +1,7 @@
 """The fleet's tables in PostgreSQL."""
 from __future__ import annotations
 
-VERSION = 4
+VERSION = 5
 SHARDS = 16
 
 TABLES = f"""
@@ -89,7 +89,7 @@ update meter m set heard = (select r.made from reading r where r.address = m.add
 THIRD = "alter table meter add column retired double precision;\n"
 
 
-# what makes of version 3 this one
+# what makes of version 3 the fourth one
 FOURTH = """
 alter table gateway add column digests bigint[] not null default '{}', add column lines bigint not null default 0,
     add column rate double precision not null default 0, add column strangers bigint not null default 0;
@@ -102,5 +102,8 @@ create table kept (name text primary key, value json not null, made double preci
 insert into setting select 'keys_until', max(number)::text from line having max(number) is not null;
 """
 
+# of version 4 only what the page reads is made anew
+FIFTH = ""
+
 # of each version what makes of it the next one
-CHANGES = (SECOND, THIRD, FOURTH)
+CHANGES = (SECOND, THIRD, FOURTH, FIFTH)
