@@ -6,7 +6,7 @@ import random
 import struct
 import time
 from collections.abc import Callable, Iterator
-from contextlib import closing
+from contextlib import closing, suppress
 from dataclasses import replace
 from pathlib import Path
 from typing import Any
@@ -116,6 +116,29 @@ def test_areas_stop_alone(fleet: Fleet) -> None:
         until(taken(fleet.gateway, fleet.area, 1))
 
 
+@pytest.mark.parametrize("what", ["exchange", "binding"])
+def test_what_went_of_an_area_is_made_again(fleet: Fleet, monkeypatch: pytest.MonkeyPatch, what: str) -> None:
+    """While an intake works the exchange or a queue's binding is deleted: a moment later gateways' messages come as before."""
+    monkeypatch.setattr(intake, "LOOKED", 0.5)
+    key = broker.up_key(fleet.area, fleet.gateway)
+    with broker.connected(fleet.config.broker) as connection, broker.connected(fleet.config.broker) as beside:
+        consuming = Consuming(Intake(fleet.config, fleet.database, "test"), connection, [fleet.area])
+        channel = broker.opened(beside)
+        if what == "exchange":
+            channel.exchange_delete(broker.EXCHANGE)
+        else:
+            channel.queue_unbind(broker.area_queue(fleet.area), broker.EXCHANGE, broker.up_key(fleet.area, "*"))
+        with pytest.raises(broker.FAULTS):
+            broker.publish(channel, broker.EXCHANGE, key, lines_body(5, 1, 9, b""))
+
+        def is_taken() -> bool:
+            consuming.turn()
+            with suppress(*broker.FAULTS):
+                broker.publish(broker.opened(beside), broker.EXCHANGE, key, lines_body(5, 1, 9, b""))
+            return fleet.fence() == (5, 1)
+        until(is_taken)
+
+
 def test_a_message_at_which_the_intake_fails(fleet: Fleet, monkeypatch: pytest.MonkeyPatch) -> None:
     """It is found and left, and all others of its batch are taken; where the servers lack something nothing is left."""
     put = intake.put_lines
@@ -217,7 +240,7 @@ class Answering:
         self.fleet, self.name, self.taking = fleet, name or fleet.gateway, Intake(fleet.config, fleet.database, "test")
         self.service = ServiceConfig(folder / "service", receivers={"radio": Receiver()})
         prepare_folder(self.service.folder)
-        self.path, self.now, self.heard = folder / "gateway.db", time.time(), 0
+        self.path, self.now, self.heard, self.file = folder / "gateway.db", time.time(), 0, 1
         self.begin()
 
     def begin(self) -> None:
@@ -230,7 +253,7 @@ class Answering:
         for _ in range(count):
             self.heard += 1
             self.now += 3
-            with open(self.service.spool / "radio.00000001.1.lines", "a", encoding="ascii") as file:
+            with open(self.service.spool / f"radio.{self.file:08d}.1.lines", "a", encoding="ascii") as file:
                 file.write(f"A {self.heard} 00\n")
             assert self.agent.number(self.now) == 1
 
@@ -333,6 +356,84 @@ def test_a_file_that_was_set_back_by_seconds(fleet: Fleet, answering: Answering,
         answering.sends()
     assert {*answering.inbox()} == {*range(1, taken + 13)}
     assert any("another message under a number" in line or "of later moments" in line for line in told_of(fleet))
+
+
+class Copy:
+    """A gateway's file as it was once, as on a disk that lies, or in a machine that begins from one image each time."""
+
+    def __init__(self, answering: Answering) -> None:
+        self.answering, self.path = answering, answering.path.with_name("saved.db")
+        answering.database.execute("pragma wal_checkpoint(truncate)")
+        self.path.write_bytes(answering.path.read_bytes())
+
+    def put(self) -> None:
+        """It is the file again; the receiver begins a new file of lines."""
+        it = self.answering
+        it.database.close()
+        for path in [*it.path.parent.glob("gateway.db*"), *it.service.spool.glob("*.lines")]:
+            path.unlink()
+        it.path.write_bytes(self.path.read_bytes())
+        it.file += 1
+        it.begin()
+
+
+@pytest.mark.parametrize("back", [1, 5, 64, 200])
+def test_a_file_that_is_set_back_again_and_again(fleet: Fleet, answering: Answering, monkeypatch: pytest.MonkeyPatch, back: int) -> None:
+    """To one copy, also by more messages than stand beside the fence: each time nothing of what is heard since is lost, and nothing that was
+    heard comes twice."""
+    monkeypatch.setattr(intake, "STRANGERS", 1000)
+    copy = Copy(answering)
+    for _ in range(3):
+        answering.hear(back)
+        answering.sends()
+        copy.put()
+        answering.hear(1)
+        answering.sends()
+    answering.hear(back)
+    answering.sends()
+    assert answering.inbox() == [*range(1, 30 + 4 * back + 4)]
+
+
+def test_much_that_waits_in_a_file_that_was_set_back(fleet: Fleet, answering: Answering) -> None:
+    """It is sent in one go, under numbers that were taken and behind these: none of it is taken before the gateway begins again, and so all of
+    it once, whether it comes at once or one by one."""
+    copy = Copy(answering)
+    for at_once in (True, False):
+        answering.hear(4)
+        answering.sends()
+        copy.put()
+        answering.hear(20)
+        if not at_once:
+            epoch, _ = answering.agent.numbering()
+            for row in answering.database.execute("select number, until, lines from message order by number").fetchall():
+                answering.taking.take([read_lines(f"up.a.{fleet.gateway}", lines_body(epoch, *row)) or pytest.fail("out of form")])
+        answering.sends()
+    assert sorted(answering.inbox()) == [*range(1, 79)]
+
+
+def test_numbers_that_somebody_else_used_up(fleet: Fleet, answering: Answering) -> None:
+    """What the gateway sends under them is known to be something else, comes under others, and `status` says so."""
+    epoch, number = fleet.fence()
+    far = int(answering.now) + 80_000
+    for first in range(1, 301, 100):
+        answering.taking.take([Message(fleet.gateway, epoch, number + it, far, ("A 0 00",)) for it in range(first, first + 100)])
+    answering.hear(10)
+    answering.sends()
+    assert [it for it in answering.inbox() if it] == [*range(1, 41)]
+    assert any("another message under a number that was taken before" in line for line in told_of(fleet))
+
+
+def test_how_many_digests_are_kept(fleet: Fleet, answering: Answering, monkeypatch: pytest.MonkeyPatch) -> None:
+    """So many parts of 64, the last ones, and of the ends of epochs the longest: many short epochs drive none of them out."""
+    monkeypatch.setattr(fences, "PARTS", 3)
+    answering.hear(370)
+    answering.sends()
+    fence, _ = fleet.fence()
+    for above in range(1, 9):
+        answering.taking.take([Message(fleet.gateway, fence + above, 1, 9, ())])
+    rows = fleet.database.execute("select epoch - %s, part, cardinality(digests) from digest order by 1, 2", (fence,)).fetchall()
+    assert [(part, count) for epoch, part, count in rows if epoch == 0] == [(3, 64), (4, 64), (5, 64), (6, 16)]
+    assert [count for epoch, _, count in rows if epoch] == [1, 1]
 
 
 # ---- the broker's rights, for gateways with users of their own

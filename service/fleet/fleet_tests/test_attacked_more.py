@@ -187,7 +187,7 @@ def test_the_page_is_not_everybodys(fleet: Fleet) -> None:
                 door.execute(f"select * from public.{table}")
         door.close()
         store.set_setting(fleet.database, "version", "3")
-        for change in ("drop table ended", "drop table kept cascade", "alter table refusal drop column gateway cascade", "alter table gateway drop column digests,"
+        for change in ("drop table digest", "drop table ended", "drop table kept cascade", "alter table refusal drop column gateway cascade", "alter table gateway drop column digests,"
                        " drop column lines cascade, drop column rate cascade, drop column strangers cascade", "drop schema page cascade"):
             fleet.database.execute(change)
         store.init(fleet.config.database)

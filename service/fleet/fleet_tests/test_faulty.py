@@ -18,7 +18,7 @@ from wmbus_fleet import broker, intake, sessions, store
 from wmbus_fleet.config import Gateway, Keep
 from wmbus_fleet.gateway import Agent, open_gateway
 from wmbus_fleet.intake import Intake
-from wmbus_fleet.messages import Again, Message
+from wmbus_fleet.messages import Again, Message, new_epoch
 from wmbus_fleet.oddities import FORM
 from wmbus_fleet.retention import Retention
 from wmbus_fleet.status import figures, in_words
@@ -71,7 +71,7 @@ def test_a_faulty_gateway_is_named(fleet: Fleet, said: list[tuple[int, int, int,
     all_told = [*in_words(figures(fleet.database))]
     # (one whose file was set back is told to begin anew, too)
     told = [line for line in all_told if fleet.gateway in line and good not in line and "never heard" not in line
-            and ("was asked" in words or "was asked" not in line)]
+            and not any(it in line and it not in words for it in ("was asked", "began a new epoch"))]
     assert [words in line for line in told] == ([True] if words else []), told
     assert not [line for line in all_told if "most gateways" in line], "it isn't most of them"
     assert store.pairs(fleet.database, "select gateway, count(*) from inbox group by gateway").get(good) == 3
@@ -80,7 +80,8 @@ def test_a_faulty_gateway_is_named(fleet: Fleet, said: list[tuple[int, int, int,
 def test_a_gateway_that_was_set_back(fleet: Fleet, tmp_path: Path, caplog: pytest.LogCaptureFixture) -> None:
     """`status` and the log say by which commands it is taken again; what it then has begins an epoch, of which all is taken."""
     taking, now = Intake(fleet.config, fleet.database, "test"), int(time.time())
-    taking.take([one_line(fleet.gateway, now - 99, number, moment) for number, moment in ((1, now - 450), (2, now - 440), (1, now - 30))])
+    own, new = new_epoch(now - 99), new_epoch(now + 9)
+    taking.take([one_line(fleet.gateway, own, number, moment) for number, moment in ((1, now - 450), (2, now - 440), (1, now - 30))])
     (told,) = [line for line in in_words(figures(fleet.database)) if line.startswith(f"{fleet.gateway} sent")]
     (logged,) = [it.getMessage() for it in caplog.records if "taken before" in it.getMessage()]
     spool, gone = tmp_path / "spool", [f"gateway.{fleet.gateway}.db", f"gateway.{fleet.gateway}.db-wal", "spool/radio.00000007.5.lines"]
@@ -94,8 +95,8 @@ def test_a_gateway_that_was_set_back(fleet: Fleet, tmp_path: Path, caplog: pytes
         assert found, text
         run(["sh", "-c", found[1].replace("RECEIVER", "radio").replace("/var/lib/wmbus", str(tmp_path))])
         assert sorted(str(it.relative_to(tmp_path)) for it in tmp_path.rglob("*") if it.is_file()) == sorted(stays)
-    taking.take([one_line(fleet.gateway, now, 1, now)])
-    assert fleet.fence() == (now, 1)
+    taking.take([one_line(fleet.gateway, new, 1, now)])
+    assert fleet.fence() == (new, 1)
 
 
 def test_a_gateway_that_isnt_known(fleet: Fleet) -> None:

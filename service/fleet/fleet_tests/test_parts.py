@@ -227,6 +227,7 @@ def set_back(fleet: Fleet, version: int) -> None:
     """Has a fleet's tables be those of an earlier version."""
     fleet.database.execute("drop schema page cascade; create schema page; create view page.release as select value::integer as version"
                            " from public.setting where name = 'version'")
+    fleet.database.execute("drop table digest; alter table ended drop column others")
     if version < 4:
         set_back_to_third(fleet, version)
     store.set_setting(fleet.database, "version", str(version))

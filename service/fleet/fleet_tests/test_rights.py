@@ -306,7 +306,7 @@ def test_each_word_has_its_help(capsys: pytest.CaptureFixture[str]) -> None:
         assert ended.value.code == 0 and "exit status" in told and len(told.split("\n\n")[1]) > 20, word
 
 
-@pytest.mark.parametrize("version", [1, 2, 3, 4])
+@pytest.mark.parametrize("version", [1, 2, 3, 4, 5])
 def test_tables_of_the_release_before(fleet: Fleet, version: int) -> None:
     """`init` makes of them this one's; a page and parts refuse them until then."""
     set_back(fleet, version)

@@ -15,7 +15,7 @@ KINDS = {
         "grant select, update (epoch, number, until, asked, seen, digests, lines, rate, strangers) on gateway to {role}",
         "grant insert on inbox to {role}", "grant usage on sequence inbox_id to {role}", "grant select (address) on meter to {role}",
         "grant select, insert, update on oddity, total to {role}", "grant insert on missing to {role}",
-        "grant select, insert, update, delete on ended to {role}"),
+        "grant select, insert, update, delete on ended, digest to {role}"),
 }
 SETTING = "allowed"
 

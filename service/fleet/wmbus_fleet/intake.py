@@ -4,8 +4,8 @@ from __future__ import annotations
 import logging
 import time
 from collections import Counter
-from collections.abc import Sequence
-from contextlib import ExitStack
+from collections.abc import Collection, Sequence
+from contextlib import ExitStack, suppress
 from typing import Any
 
 import psycopg
@@ -19,7 +19,7 @@ from .asking import Asking, ask
 from .config import Config
 from .fences import Known, put_fences
 from .messages import Again, Begin, Message, area_in, frames_in, gateway_in, is_far, read_lines
-from .oddities import DIFFERS, ELSEWHERE, FAILING, FAR_ANSWER, FORM, HEADERS, MANY, SET_BACK, Oddities
+from .oddities import DIFFERS, ELSEWHERE, FAILING, FAR_ANSWER, FORM, HEADERS, MANY, OTHER_ANSWER, SET_BACK, Oddities
 from .programs import Fence, accept, addresses_of, is_lack
 from .store import Database
 from .turns import Held, next_batch
@@ -30,8 +30,10 @@ log = logging.getLogger("wmbus")
 # so many messages in hand (2,000 gateways send a thousand a second), so many lines a transaction
 PREFETCH, MOST = 800, 4000
 LOOK, PAUSE = 0.05, 0.5
-# a gateway is asked again where nothing came of it
-ASKED_SECONDS = 2
+# behind so many seconds what somebody deleted of an area is made again
+LOOKED = 30.0
+# a gateway is asked again where nothing came of it, for so much at once
+ASKED_SECONDS, ORDERS = 2, 16
 # of so many lines of meters that aren't known each is kept, of a gateway and a transaction; more are counted
 STRANGERS = 50
 
@@ -47,15 +49,17 @@ class Intake:
         is counted what; what is left since others wait too is asked for."""
         counts: Counter[str] = Counter(messages=len(messages) + len(rubbish) + len(left), left=len(left))
         with store.transaction(self.database):
-            known = self._fences({it.gateway for it in messages})
-            last = fences.known(self.database, sorted(known))
-            answers, moved = self._answers(known, messages)
+            known, now = self._fences({it.gateway for it in messages}), time.time()
+            last = fences.known(self.database, sorted(known), messages)
+            others = fences.others_among(last, messages)
+            answers, moved = self._answers(known, messages, others)
             taken = [message for message, answer in zip(messages, answers, strict=True) if answer == "take"]
             counts["lines"] = put_lines(self.config, self.database, taken)
-            strange, wrong = look_at(last, messages, answers)
+            strange = look_at(last, messages, answers, others)
+            fences.end_others(last, others, moved, now)
             put_fences(self.database, moved, last)
-            fences.put_ends(self.database, known, taken)
-            asked = self._asked(known, known | moved, messages, answers, wrong, left)
+            fences.put_ends(self.database, last, others, now)
+            asked = self._asked(known | moved, messages, answers, left)
             odd = [*rubbish, *((it.gateway, MANY) for it in left)]
             oddities.put(self.database, oddities.of_answers(known, messages, answers, odd) + strange)
             counts.update(answer.split(" ")[0] for answer in answers)
@@ -70,35 +74,45 @@ class Intake:
                                      (sorted(names),)).fetchall()
         return {name: (epoch, number) for name, epoch, number in rows}
 
-    def _answers(self, known: dict[str, Fence], messages: Sequence[Message]) -> tuple[list[str], dict[str, Fence]]:
-        """What becomes of each message, and the fences that move: behind an epoch that is far above now none could ever begin."""
-        now = time.time()
-        near = [it for it in messages if it.epoch <= known.get(it.gateway, (it.epoch, 0))[0] or not is_far(it.epoch, now)]
-        told = accept(words_of(self.config.programs.line_accept), known, near)
+    def _answers(self, known: dict[str, Fence], messages: Sequence[Message], others: Collection[tuple[str, int]]
+                 ) -> tuple[list[str], dict[str, Fence]]:
+        """What becomes of each message, and the fences that move: behind an epoch that is far above now none could ever begin, and of one under
+        whose numbers others come nothing more is taken."""
+        now, own = time.time(), dict[int, str]()
+        for it in messages:
+            epoch, _ = known.get(it.gateway, (it.epoch, 0))
+            if it.epoch > epoch and is_far(it.epoch, now):
+                own[id(it)] = FAR_ANSWER
+            elif it.epoch == epoch and (it.gateway, epoch) in others:
+                own[id(it)] = OTHER_ANSWER
+        told = accept(words_of(self.config.programs.line_accept), known, [it for it in messages if id(it) not in own])
         answers = iter(told.answers)
-        kept = {id(it) for it in near}
-        return [next(answers) if id(it) in kept else FAR_ANSWER for it in messages], told.fences
+        return [own.get(id(it)) or next(answers) for it in messages], told.fences
 
-    def _asked(self, known: dict[str, Fence], moved: dict[str, Fence], messages: Sequence[Message], answers: Sequence[str],
-               wrong: dict[str, Message], left: Sequence[Message]) -> list[Again | Begin]:
-        """Whom to ask for what, each not too often."""
-        wanted: dict[str, list[Again | Begin]] = {}
-        now = time.time()
+    def _asked(self, moved: dict[str, Fence], messages: Sequence[Message], answers: Sequence[str], left: Sequence[Message]
+               ) -> list[Again | Begin]:
+        """Whom to ask for what, each not too often: what stands in an epoch that is over first, since who has it sends nothing else that counts."""
+        gaps: dict[str, Again] = {}
+        over: dict[tuple[str, int], Message] = {}
         for message, answer in zip(messages, answers, strict=True):
             word, *rest = answer.split(" ")
             name = message.gateway
             if word == "ask":
-                wanted[name] = [Again(name, int(rest[0]), int(rest[1]))]
+                gaps[name] = Again(name, int(rest[0]), int(rest[1]))
             elif word == "take":
-                wanted.pop(name, None)
-            elif word == FAR_ANSWER or word == "again" and message.epoch < known[name][0]:
+                gaps.pop(name, None)
+            elif word == FAR_ANSWER or word in ("again", OTHER_ANSWER) and message.epoch < moved[name][0]:
                 # (as where its clock or its state was set back: all that it says would be left for ever)
-                wanted[name] = fences.begun_anew(self.database, moved[name], message, now)
-        for name, message in wrong.items():
-            # (what is behind the last message that is the same was never taken)
-            wanted[name] = [Begin(name, fences.behind(moved[name], now), message.epoch, message.number - 1)]
+                over[name, message.epoch] = message
         for message in left:
-            wanted.setdefault(message.gateway, [Again(message.gateway, message.epoch, message.number)])
+            gaps.setdefault(message.gateway, Again(message.gateway, message.epoch, message.number))
+        wanted: dict[str, list[Again | Begin]] = {}
+        for (name, _), message in over.items():
+            orders = wanted.setdefault(name, [])
+            if len(orders) < ORDERS:
+                orders += fences.begun_anew(self.database, moved[name], message, time.time())
+        for name, again in gaps.items():
+            wanted.setdefault(name, []).append(again)
         wanted = {name: orders for name, orders in wanted.items() if orders}
         if not wanted:
             return []
@@ -109,23 +123,23 @@ class Intake:
         return [order for (name,) in rows for order in wanted[name]]
 
 
-def look_at(last: dict[str, Known], messages: Sequence[Message], answers: Sequence[str]) -> tuple[Oddities, dict[str, Message]]:
+def look_at(last: dict[str, Known], messages: Sequence[Message], answers: Sequence[str], others: fences.Others) -> Oddities:
     """Goes on with what is known of gateways. Messages under numbers that were taken, though they are others, or tell of later moments than
-    all that was: a gateway's file is an older one; and the first other one of each gateway."""
-    strange, wrong = Oddities(), dict[str, Message]()
+    all that was: a gateway's file is an older one. Others that came beside each other in this batch are among them from now on."""
+    strange = Oddities()
     for message, answer in zip(messages, answers, strict=True):
         if answer == "take":
             last[message.gateway].take(message)
-        elif answer == "again":
+        elif answer in ("again", OTHER_ANSWER):
             it = last[message.gateway]
-            differs = it.differs(message)
-            if differs and (message.gateway not in wrong or wrong[message.gateway].number > message.number):
-                wrong[message.gateway] = message
+            key, differs = (message.gateway, message.epoch), it.differs(message)
+            if differs:
+                others[key] = min(message.number, others.get(key, message.number))
             if it.is_later(message):
                 strange[message.gateway, SET_BACK] += 1
             elif differs:
                 strange[message.gateway, DIFFERS] += 1
-    return strange, wrong
+    return strange
 
 
 def put_lines(config: Config, database: Database, taken: Sequence[Message]) -> int:
@@ -182,7 +196,19 @@ class Consuming:
         self.held: list[Held] = []
         self.since = 0.0
         self.areas = {name: Area(name) for name in areas}
+        self.looked_at = time.monotonic()
         self._open()
+
+    def _look(self) -> None:
+        """Makes the exchange and the areas' queues and bindings again, where they went: gateways' messages come nowhere else, and a queue
+        without a binding says nothing of it."""
+        if time.monotonic() < self.looked_at + LOOKED:
+            return
+        self.looked_at = time.monotonic()
+        for area in self.areas.values():
+            if area.is_open():
+                with suppress(*broker.CHANNEL_FAULTS):
+                    broker.declare_area(area.channel, area.name)
 
     def _open(self) -> None:
         """Has messages of each area come that doesn't give any; what is wrong with one is no other one's trouble."""
@@ -229,6 +255,7 @@ class Consuming:
 
     def turn(self) -> int:
         """A batch, once it is due; how many messages it had."""
+        self._look()
         self._open()
         is_full = self._is_full()
         is_due = time.monotonic() - self.since >= self.intake.config.interval or is_full

@@ -21,8 +21,8 @@ FAILING, FAR = "a message at which the intake fails", "a message of an epoch tha
 SET_BACK = "a message of later moments under a number that was taken before (its file or its clock was set back)"
 DIFFERS = "another message under a number that was taken before (its file was set back, or two machines have its name)"
 MANY = "a message more than its part while others waited, for which it is asked again"
-# what this intake gives an answer to that is none of the program's
-FAR_ANSWER = "far"
+# answers of this intake that are none of the program's
+FAR_ANSWER, OTHER_ANSWER = "far", "other"
 REMEDIES = {SET_BACK: (
     "; where that goes on nothing that it hears is taken until it begins anew. On its machine, as root: systemctl stop wmbus-gateway"
     " wmbus-receiver@RECEIVER; rm /var/lib/wmbus/gateway.{}.db* /var/lib/wmbus/spool/RECEIVER.*.lines; systemctl start"

@@ -1,7 +1,7 @@
 """The fleet's tables in PostgreSQL."""
 from __future__ import annotations
 
-VERSION = 5
+VERSION = 6
 SHARDS = 16
 
 TABLES = f"""
@@ -14,9 +14,13 @@ create table gateway (
     name text primary key, area text not null references area, epoch bigint not null default 0, number bigint not null default 0,
     until bigint not null default 0, asked timestamptz, seen timestamptz, gone timestamptz, digests bigint[] not null default '{{}}',
     lines bigint not null default 0, rate double precision not null default 0, strangers bigint not null default 0);
--- the last message that was taken of each earlier epoch of a gateway
-create table ended (gateway text not null, epoch bigint not null, number bigint not null, made double precision not null,
+-- the last message that was taken of each earlier epoch of a gateway, and the least number under which another one came and was left, until
+-- the gateway begins again before it
+create table ended (gateway text not null, epoch bigint not null, number bigint not null, made double precision not null, others bigint,
     primary key (gateway, epoch));
+-- digests of a gateway's messages of before, 64 of an epoch each, but for those at its end
+create table digest (gateway text not null, epoch bigint not null, part bigint not null, digests bigint[] not null,
+    made double precision not null, primary key (gateway, epoch, part));
 -- a meter's shard, whose sessions are one after the other
 create function shard_of(address text) returns integer immutable language sql
     return ('x' || substr(md5(address), 1, 2))::bit(8)::integer & {SHARDS - 1};
@@ -105,5 +109,12 @@ insert into setting select 'keys_until', max(number)::text from line having max(
 # of version 4 only what the page reads is made anew
 FIFTH = ""
 
+# what makes of version 5 this one
+SIXTH = """
+alter table ended add column others bigint;
+create table digest (gateway text not null, epoch bigint not null, part bigint not null, digests bigint[] not null,
+    made double precision not null, primary key (gateway, epoch, part));
+"""
+
 # of each version what makes of it the next one
-CHANGES = (SECOND, THIRD, FOURTH, FIFTH)
+CHANGES = (SECOND, THIRD, FOURTH, FIFTH, SIXTH)
