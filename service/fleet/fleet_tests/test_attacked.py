@@ -583,11 +583,12 @@ def heard_by(fleet: Fleet, gateway: str, message: int, texts: list[str]) -> None
 
 
 @pytest.mark.parametrize("sent, heard, state", [
-    (-60, -30, "confirmed"), (-30, -60, "unsure"), (None, -5, "unsure"), (-60, None, "confirmed"), (None, None, "unsure")])
+    (-60, -30, "confirmed"), (-30, -60, "unsure"), (None, -5, "unsure"), (-60, None, "confirmed"), (None, None, "unsure"),
+    (-60, 30, "confirmed"), (-60, 3600, "unsure")])
 def test_what_was_heard_before_a_downlink_went_out_confirms_nothing(fleet: Fleet, monkeypatch: pytest.MonkeyPatch, sent: int | None,
                                                                     heard: int | None, state: str) -> None:
-    """A late copy of an earlier response, by another gateway: the command is unsure, and somebody is told so. Where the line has no moment
-    what counts is that the downlink is out."""
+    """A late copy of an earlier response, by another gateway: the command is unsure, and somebody is told so; also where that gateway's clock is
+    far ahead, so that nobody knows when it was heard. Where the line has no moment what counts is that the downlink is out."""
     now, meter = time.time(), fleet.meters[0]
     text = line_of(next_telegrams(random.Random(7), meter)[0], 0 if heard is None else int(now + heard)).strip()
 

@@ -54,7 +54,7 @@ def one_line(name: str, epoch: int, number: int, until: int) -> Message:
     # another's numbers: an epoch that is over, and a gap that it doesn't fill
     ([(5, 1, 0, LINE), (4, 8, 0, LINE)], 0, "sent 1 times a message of an epoch that is over"),
     # its file was set back, as by a copy of its disk; what comes again for another reason is named by nobody
-    ([(5, 1, -450, LINE), (5, 2, -440, LINE), (5, 1, -30, LINE)], 0, "sent 1 times a message of later moments under a number that was taken"),
+    ([(5, 1, -450, LINE), (5, 2, -440, LINE), (5, 1, -30, LINE)], 0, "sent 1 times another message under a number that was taken before"),
     ([(5, 1, -40, LINE), (5, 2, -50, LINE), (5, 1, -40, LINE), (5, 2, -50, LINE)], 0, ""),
     ([(5, 1, 0, LINE), (5, 9, 0, LINE)], 0, "was asked for message 2 of epoch 5 and hasn't sent it"),
 ])
@@ -78,10 +78,13 @@ def test_a_faulty_gateway_is_named(fleet: Fleet, said: list[tuple[int, int, int,
 
 
 def test_a_gateway_that_was_set_back(fleet: Fleet, tmp_path: Path, caplog: pytest.LogCaptureFixture) -> None:
-    """`status` and the log say by which commands it is taken again; what it then has begins an epoch, of which all is taken."""
+    """By more than is known of it: `status` and the log say by which commands it is taken again; what it then has begins an epoch, of which
+    all is taken."""
     taking, now = Intake(fleet.config, fleet.database, "test"), int(time.time())
     own, new = new_epoch(now - 99), new_epoch(now + 9)
-    taking.take([one_line(fleet.gateway, own, number, moment) for number, moment in ((1, now - 450), (2, now - 440), (1, now - 30))])
+    taking.take([one_line(fleet.gateway, own, number, moment) for number, moment in ((1, now - 450), (2, now - 440))])
+    fleet.database.execute("update gateway set digests = '{}'")
+    taking.take([one_line(fleet.gateway, own, 1, now - 30)])
     (told,) = [line for line in in_words(figures(fleet.database)) if line.startswith(f"{fleet.gateway} sent")]
     (logged,) = [it.getMessage() for it in caplog.records if "taken before" in it.getMessage()]
     spool, gone = tmp_path / "spool", [f"gateway.{fleet.gateway}.db", f"gateway.{fleet.gateway}.db-wal", "spool/radio.00000007.5.lines"]

@@ -135,10 +135,11 @@ def look_at(last: dict[str, Known], messages: Sequence[Message], answers: Sequen
             key, differs = (message.gateway, message.epoch), it.differs(message)
             if differs:
                 others[key] = min(message.number, others.get(key, message.number))
-            if it.is_later(message):
-                strange[message.gateway, SET_BACK] += 1
-            elif differs:
+            if differs:
                 strange[message.gateway, DIFFERS] += 1
+            elif answer == "again" and it.is_later(message):
+                # (nothing is known of what had its number)
+                strange[message.gateway, SET_BACK] += 1
     return strange
 
 

@@ -11,6 +11,7 @@ from wmbus_service.merging import moment_in
 from wmbus_service.steps import Told
 
 from .arrived import Arrived
+from .oddities import SLACK
 
 COMPACT = json.JSONEncoder(separators=(",", ":")).encode
 # what becomes of a command: by its id, or by its meter and the program's number
@@ -77,13 +78,18 @@ class Rows:
         if said["confirmed"] is not None:
             # (a copy of an earlier response may come late, by another gateway: what was heard before the downlink went out confirms nothing)
             self.changes.append({"address": said["address"], "number": said["confirmed"], "state": "confirmed",
-                                 "heard": min(moment_in(event.text, 0) or self.now, self.now)})
+                                 "heard": self._heard(event)})
         sent = said["sent"]
         if sent:
             self.opened.add(said["address"])
             self.counts["downlinks"] += 1
             self.downlinks.append((gateway or "", said["address"], sent["down"], sent["frame"], sent["id"]))
             self.changes.append({"address": said["address"], "number": sent["id"], "tries": 1})
+
+    def _heard(self, event: Event) -> float:
+        """When it was heard for sure: by a clock that is ahead that isn't known, and so nothing was out by then."""
+        moment = moment_in(event.text, 0) or self.now
+        return min(moment, self.now) if moment < self.now + SLACK else 0.0
 
     def _queued(self, _number: int, event: Event, said: dict[str, Any]) -> None:
         """A command has its number."""
