@@ -2,9 +2,10 @@
 import os
 import subprocess
 import time
+from typing import IO
 
 
-def peak_so_far(process):
+def peak_so_far(process: int) -> int:
     """The most memory that a running process had by now, in kB; 0 where it is gone. What the kernel tells of a process that ended counts
     the one that started it too."""
     try:
@@ -17,7 +18,7 @@ def peak_so_far(process):
     return 0
 
 
-def run(words, output=subprocess.DEVNULL):
+def run(words: list[str], output: int | IO[bytes] | None = subprocess.DEVNULL) -> tuple[float, float, int, int]:
     """A program's run on one processor, its output to nothing or where it is said: seconds of the processor and by the clock, the peak of
     memory in kB, and the exit status."""
     began, peak, ended = time.monotonic(), 0, 0

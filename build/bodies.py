@@ -6,15 +6,24 @@ import functools
 import hashlib
 import os
 import re
-from collections import namedtuple
+from typing import NamedTuple
 
 from libraries import TOP, below, known_crates, logic_of, toolchain
 
 PARTS = ("src", "specs", "proofs")
 
+
 # A function of a source file: what it is called by there, the words of which rattle makes its name, where its text, its body and its end
 # are, the cycle that it is of, and whether other crates can call it.
-Function = namedtuple("Function", "key words start body end cycle public")
+class Function(NamedTuple):
+    key: str
+    words: list[str]
+    start: int
+    body: int
+    end: int
+    cycle: str | None
+    public: bool
+
 
 # what is no code: comments, texts and characters
 BLANKED = re.compile(r'//[^\n]*|/\*.*?\*/|b?r(#*)".*?"\1|b?"(?:\\.|[^"\\])*"|(?<![A-Za-z0-9_])b?\'(?:\\[^\n\']*|[^\\\'\n])\'', re.S)
@@ -33,22 +42,22 @@ FIELD = re.compile(r"^(?=    (?:pub\b|\w+:))", re.M)
 RELEASE = re.compile(r'^(const VERSION: &str = "\w+ )[\d.]+', re.M)
 
 
-def read(path):
+def read(path: str) -> str:
     with open(path, encoding="utf-8") as file:
         return file.read()
 
 
-def files_below(folder):
+def files_below(folder: str) -> list[str]:
     return sorted(os.path.join(place, name) for place, _, names in os.walk(folder) for name in names)
 
 
-def type_word(text):
+def type_word(text: str) -> str:
     """A type as rattle names it in a function's name: its last word, without its arguments."""
     plain = re.sub(r"'\w+\s*,?\s*|&|\bmut\b", "", text).strip()
     return re.sub(r"<.*", "", plain, flags=re.S).split("::")[-1].strip()
 
 
-def impl_word(head):
+def impl_word(head: str) -> str:
     """What stands for an impl in the names of its functions (a pattern): the type, and behind it the trait."""
     head = re.sub(r"\bwhere\b.*", "", head, flags=re.S).strip()
     if head.startswith("<"):
@@ -67,7 +76,7 @@ def impl_word(head):
     return type_word(of) + type_word(trait) + ("\\w*" if "<" in trait else "")
 
 
-def closing(text, brace):
+def closing(text: str, brace: int) -> int:
     """The place behind the brace that closes the one at a place."""
     depth = 0
     for it in re.finditer(r"[{}]", text[brace:]):
@@ -77,7 +86,7 @@ def closing(text, brace):
     return len(text)
 
 
-def body_of(text, start):
+def body_of(text: str, start: int) -> tuple[int, int]:
     """Where the body of a function begins and ends whose name ends at a place; a function without one is all before its semicolon."""
     depth, behind = 0, start
     for mark in re.finditer(r"[()\[\]{;]", text[start:]):
@@ -95,12 +104,14 @@ def body_of(text, start):
 
 
 @functools.lru_cache(maxsize=2048)
-def functions(path, text):
+def functions(path: str, text: str) -> list[Function]:
     """The functions of a source file that stand in no function, in their order."""
     text = BLANKED.sub(lambda it: re.sub(r"[^\n]", " ", it[0]), text)
     module = path.removeprefix("src/").removesuffix(".rt").removesuffix("/mod").split("/")
     # (for each brace around a place the words of the names around it, and whether it is a trait's or that of an impl of one)
-    around, found, at, opening = [([] if module in (["lib"], ["main"]) else module, False)], [], 0, None
+    around: list[tuple[list[str], bool] | None] = [([] if module in (["lib"], ["main"]) else module, False)]
+    opening: tuple[list[str], bool] | None = None
+    found, at = [], 0
     while it := TOKEN.search(text, at):
         at = it.end()
         if it[0] == "{":
@@ -120,7 +131,8 @@ def functions(path, text):
             start = it.start() - len(head.lstrip())
             cycle = CYCLE.search(head)
             words = [*words, it[1]]
-            found.append(Function("::".join(words), words, start, body, end, cycle and cycle[1], of_trait or bool(PUBLIC.search(head))))
+            is_public = of_trait or bool(PUBLIC.search(head))
+            found.append(Function("::".join(words), words, start, body, end, cycle[1] if cycle else None, is_public))
             at = end
         elif it[2]:
             opening = ([*words, it[2]], it[0].startswith("trait")) if text[at:].lstrip()[:1] != ";" else None
@@ -131,7 +143,7 @@ def functions(path, text):
     return found
 
 
-def named(text):
+def named(text: str) -> str:
     """A source's text in which each `ghost use` brings in those names alone that its block says."""
     made, at = [], 0
     for it in NAMED.finditer(text):
@@ -140,13 +152,14 @@ def named(text):
             depth += {"{": 1, "}": -1}.get(text[end], 0)
             end += 1
         block = NAMED.sub("", text[it.end():end])
-        said = [name for name in it[2].split(", ") if re.search(r"(?<!\w)" + re.escape(name.split(" as ")[-1].strip("◌")) + r"(?!\w)", block)]
-        made.append(text[at:it.start()] + (f"ghost use {it[1]}{{{', '.join(said)}}};" if said else ""))
+        used = [name for name in it[2].split(", ")
+                if re.search(r"(?<!\w)" + re.escape(name.split(" as ")[-1].strip("◌")) + r"(?!\w)", block)]
+        made.append(text[at:it.start()] + (f"ghost use {it[1]}{{{', '.join(used)}}};" if used else ""))
         at = it.end()
     return "".join(made) + text[at:]
 
 
-def stated(path, text):
+def stated(path: str, text: str) -> str:
     """What the crates above can see of a source file: without the bodies of its functions, without those that they can't call, and without
     the fields that they can't name, comments, and what names stand for."""
     kept, at = [], 0
@@ -161,11 +174,25 @@ def stated(path, text):
     return re.sub(r"\s+", " ", named(INSIDE.sub("", said)))
 
 
-# What the crates above a crate can see of it: a source file's statement, or one declaration of a file of definitions, with the names by which
-# they are called and how they are written there, in a text that brings in nothing.
-Part = namedtuple("Part", "crate path text names")
+# What the crates above a crate can see of it: a source file's statement, or one declaration of a file of definitions, with the names by
+# which they are called and how they are written there, in a text that brings in nothing.
+class Part(NamedTuple):
+    crate: str
+    path: str
+    text: str
+    names: frozenset[str]
+
+
 # From where a text takes a name: the crate, the place among its definitions, and the name there.
-Taken = namedtuple("Taken", "crate place name")
+class Taken(NamedTuple):
+    crate: str
+    place: str
+    name: str | None
+
+
+# from where a text takes each of its names, and a part with those that it takes
+Names = dict[str, set[Taken]]
+Seen = tuple[Part, Names]
 
 ITEM = re.compile(r"\bpub(?:\(\w+\))? (?:unsafe |const )*(?:struct|enum|trait|fn|const|static|type) (\w+)")
 IMPL = re.compile(r"\bimpl\b([^{;]*)\{")
@@ -180,7 +207,7 @@ INNER = re.compile(r"^ +(?:(?:abbrev|unfoldable|pub) )*(?:record |data )?([^\s:(
 WORD = re.compile(r"[^\s(){},;.]+")
 
 
-def names_in(text):
+def names_in(text: str) -> set[str]:
     """The names that a source's statement gives to what other crates call: of its items, and of the types that it has methods of."""
     types, items, at = set(), [], 0
     for it in IMPL.finditer(text):
@@ -192,7 +219,7 @@ def names_in(text):
     return {*ITEM.findall(" ".join([*items, text[at:]])), *RENAMED.findall(text), *types}
 
 
-def declarations(text):
+def declarations(text: str) -> list[tuple[set[str], str]]:
     """The declarations of a file of definitions, each with the names by which it is called: a record's and a module's inner ones too."""
     found = []
     for line in text.splitlines():
@@ -206,9 +233,9 @@ def declarations(text):
     return [(names, re.sub(r"\s+", " ", " ".join(lines)).strip()) for names, lines in found]
 
 
-def taken_by(text):
+def taken_by(text: str) -> Names:
     """From where a text of sources or definitions takes which names of it."""
-    found = {}
+    found: Names = {}
     for it in BROUGHT.finditer(text):
         crate, place, names, other = it.groups()
         for name in (names or "").split(", ") if names else [None]:
@@ -218,7 +245,7 @@ def taken_by(text):
 
 
 @functools.cache
-def parts(crate):
+def parts(crate: str) -> tuple[Seen, ...]:
     """What the crates above a crate can see of it, and of each part from where it takes which names."""
     folder, found = f"{TOP}/crates/{crate}", []
     for path in files_below(f"{folder}/src"):
@@ -238,14 +265,14 @@ BROUGHT_INLINE = re.compile(r"ghost use Rattle\.[^;]*; ?")
 
 
 @functools.cache
-def by_file(crate):
-    found = {}
+def by_file(crate: str) -> dict[str, list[Seen]]:
+    found: dict[str, list[Seen]] = {}
     for part, taken in parts(crate):
         found.setdefault(part.path, []).append((part, taken))
     return found
 
 
-def parts_taken(taken, libraries_below):
+def parts_taken(taken: Taken, libraries_below: list[str]) -> list[Seen]:
     """The parts that a text takes by such a name; all that may be meant where the place doesn't tell it."""
     words, files = taken.place.split("."), by_file(taken.crate)
     is_source = words[0] == "declared"
@@ -263,22 +290,25 @@ def parts_taken(taken, libraries_below):
     return [it for name in libraries_below for path, mine in by_file(name).items() if path == f"specs/{words[0]}.antt" for it in mine]
 
 
-def seen_by(crate):
+def seen_by(crate: str) -> list[Part]:
     """The parts of the crates below that a crate's sources and definitions name, and those that these name in turn."""
     folder, libraries_below = f"{TOP}/crates/{crate}", below(crate)
-    called = {}
+    called: dict[str, list[Seen]] = {}
     for it in (it for name in libraries_below for it in parts(name)):
         for name in it[0].names if it[0].path.startswith("src/") else ():
             called.setdefault(name, []).append(it)
     own = [(path, read(path)) for part in ("src", "specs") for path in files_below(f"{folder}/{part}")]
-    texts = [(BLANKED.sub(" ", text) if path.endswith(".rt") else text, path.endswith(".rt"), taken_by(text), crate, None) for path, text in own]
-    found = {}
+    texts: list[tuple[str, bool, Names, str, str | None]]
+    texts = [(BLANKED.sub(" ", text) if path.endswith(".rt") else text, path.endswith(".rt"), taken_by(text), crate, None)
+             for path, text in own]
+    found: dict[Part, None] = {}
     while texts:
         text, is_source, taken, home, path = texts.pop()
         words = set(WORD.findall(text)) | set(re.findall(r"\w+", text))
-        more = [it for word in words for one in taken.get(word.strip("◌"), ()) if one.crate in libraries_below for it in parts_taken(one, libraries_below)]
+        more = [it for word in words for one in taken.get(word.strip("◌"), ()) if one.crate in libraries_below
+                for it in parts_taken(one, libraries_below)]
         # (operators stand between blanks, and a definition calls its neighbours by their names)
-        more += [it for it in by_file(home).get(path, ()) if not is_source and it[0].names & words] if path else []
+        more += [seen for seen in by_file(home).get(path, ()) if not is_source and seen[0].names & words] if path else []
         more += [it for word in words for it in called.get(word, ())] if is_source else []
         for part, its in more:
             if part not in found:
@@ -287,10 +317,10 @@ def seen_by(crate):
     return list(found)
 
 
-def sum_of_trial(crate):
-    """A sum of all that says whether a crate's bodies are wrong: its sources and definitions, the bodies, what it can see of the crates below,
-    wherever that stands there, and the logic. Proofs are none of it, nor what a toolchain is called: where a body breaks a contract no proof can
-    help it. Nor is the number of the release."""
+def sum_of_trial(crate: str) -> str:
+    """A sum of all that says whether a crate's bodies are wrong: its sources and definitions, the bodies, what it can see of the crates
+    below, wherever that is there, and the logic. Proofs are none of it, nor what a toolchain is called: where a body breaks a contract no
+    proof can help it. Nor is the number of the release."""
     folder, total = f"{TOP}/crates/{crate}", hashlib.sha256(f"{logic_of(toolchain())} {known_crates()[crate]}\n".encode())
     for part in ("src", "specs", "must-fail"):
         for path in files_below(f"{folder}/{part}"):
@@ -305,10 +335,26 @@ class Body:
     """A wrong body: its file of must-fail, the texts that it changes, the functions in which they stand, and why it stands alone, if it
     does."""
 
-    def __init__(self, crate, file):
-        self.crate, self.file, self.pairs, self.places, self.alone, self.bad = crate, file, [], [], None, None
-        folder, path, old = f"{TOP}/crates/{crate}", "", None
-        for line in read(f"{folder}/must-fail/{file}").split("\n"):
+    def __init__(self, crate: str, file: str) -> None:
+        self.crate, self.file = crate, file
+        self.pairs: list[tuple[str, str, str]] = []
+        self.places: list[tuple[str, str]] = []
+        self.alone: str | None = None
+        self.bad: str | None = None
+        self.read_pairs(read(f"{TOP}/crates/{crate}/must-fail/{file}"))
+        self.texts: dict[str, str] = {}
+        self.taken: set[str | tuple[str, str]] = set()
+        if not self.pairs:
+            self.bad = "it has no old and new text"
+        for pair in self.pairs:
+            self.bad = self.bad or self.add(f"{TOP}/crates/{crate}", *pair)
+        for path, key in self.places:
+            self.taken |= {function.cycle or (path, key) for function in functions(path, self.texts[path]) if function.key == key}
+
+    def read_pairs(self, text: str) -> None:
+        """Notes the old and new texts that a file of must-fail has, and why the body stands alone."""
+        path, old = "", None
+        for line in text.split("\n"):
             word, _, rest = line.partition(": ")
             if word == "file":
                 path = rest.strip()
@@ -319,15 +365,8 @@ class Body:
                 old = None
             elif word == "alone":
                 self.alone = rest
-        self.texts, self.taken = {}, set()
-        if not self.pairs:
-            self.bad = "it has no old and new text"
-        for pair in self.pairs:
-            self.bad = self.bad or self.add(folder, *pair)
-        for path, key in self.places:
-            self.taken |= {it.cycle or (path, key) for it in functions(path, self.texts[path]) if it.key == key}
 
-    def add(self, folder, path, old, new):
+    def add(self, folder: str, path: str, old: str, new: str) -> str | None:
         """Applies a pair and notes the function that it changes; why it can't be applied, else nothing."""
         if path not in self.texts:
             if not os.path.isfile(f"{folder}/{path}"):
@@ -348,15 +387,15 @@ class Body:
         return None
 
 
-def bodies_of(crate):
+def bodies_of(crate: str) -> list[Body]:
     folder = f"{TOP}/crates/{crate}/must-fail"
     names = sorted(os.listdir(folder)) if os.path.isdir(folder) else []
     return [Body(crate, name) for name in names if name.endswith((".edit", ".md"))]
 
 
-def together(crate, bodies):
+def together(crate: str, bodies: list[Body]) -> list[list[Body]]:
     """The bodies in batches, of which each has at most one body a function; those that stand alone come last, each by itself."""
-    made = []
+    made: list[list[Body]] = []
     for body in bodies:
         if body.alone:
             continue
@@ -369,9 +408,9 @@ def together(crate, bodies):
     return made + [[body] for body in bodies if body.alone]
 
 
-def texts_with(crate, bodies):
+def texts_with(crate: str, bodies: list[Body]) -> dict[str, str] | None:
     """The texts of the files that bodies change, with all of them put in; nothing where an old text doesn't stand once there any more."""
-    texts = {}
+    texts: dict[str, str] = {}
     for path, old, new in (pair for body in bodies for pair in body.pairs):
         text = texts.get(path) or read(f"{TOP}/crates/{crate}/{path}")
         if text.count(old) != 1:

@@ -13,7 +13,7 @@ RATTLE = f"{KIT}/bin/rattle"
 KEEPS_MEMORY = {"MIMALLOC_PURGE_DELAY": "-1"}
 
 
-def text_of(file):
+def text_of(file: str) -> str:
     try:
         with open(file, encoding="utf-8") as opened:
             return opened.read().strip()
@@ -22,7 +22,7 @@ def text_of(file):
 
 
 @functools.cache
-def known_crates():
+def known_crates() -> dict[str, list[str]]:
     """The crates of crates.txt with what each names, the kit's libraries too."""
     found = {}
     for line in text_of(f"{TOP}/crates.txt").splitlines():
@@ -33,7 +33,7 @@ def known_crates():
 
 
 @functools.cache
-def below(crate):
+def below(crate: str) -> list[str]:
     """The repository's crates on which a crate stands, without itself, lowest first."""
     found = []
     for name in known_crates()[crate]:
@@ -42,53 +42,53 @@ def below(crate):
     return found
 
 
-def is_program(crate):
+def is_program(crate: str) -> bool:
     return os.path.isfile(f"{TOP}/crates/{crate}/src/main.rt")
 
 
-def said(*words):
+def said(*words: str) -> str:
     ran = subprocess.run(words, capture_output=True, text=True)
     if ran.returncode:
         sys.exit(f"{os.path.basename(sys.argv[0])}: {ran.stderr.strip() or words[0]}")
     return ran.stdout.strip()
 
 
-def sources(crate):
+def sources(crate: str) -> str:
     """The hash of a crate's sources and of those below it."""
     return said(f"{TOP}/build/sources", crate)
 
 
 @functools.cache
-def toolchain():
+def toolchain() -> str:
     return " ".join(said("rt", "version").split())
 
 
-def logic_of(version):
+def logic_of(version: str) -> str:
     """What a toolchain of this version proves by: those of one logic take the same proofs, and differ in their commands."""
     return version.partition(" logic ")[2] or version
 
 
-def stamp(crate):
+def stamp(crate: str) -> str:
     """What tells whether a library that stands is of these sources."""
     return f"{sources(crate)} {toolchain()}"
 
 
-def proved(crate):
+def proved(crate: str) -> str:
     """The folder in which a library's statements and code stand once it is proved."""
     return f"{TOP}/crates/{crate}/out/rlib/statements"
 
 
-def stands(crate):
+def stands(crate: str) -> bool:
     return text_of(f"{proved(crate)}/sources") == stamp(crate)
 
 
-def note_sources(crate, told):
+def note_sources(crate: str, told: str) -> None:
     """Notes of which sources a library is that was proved."""
     with open(f"{proved(crate)}/sources", "w", encoding="utf-8") as file:
         file.write(f"{told}\n")
 
 
-def words(crate):
+def words(crate: str) -> list[str]:
     """What the prover is told of a crate: its name, its first file, and the libraries that it names and those below them."""
     own = [it for it in known_crates()[crate] if it in known_crates()]
     of_kit = ["std", *(it for it in known_crates()[crate] if it not in known_crates())]
@@ -100,7 +100,7 @@ def words(crate):
     return [*found, "--antt-project", f"{KIT}/rattle/logic/antt-project.json", "--logic-built", f"{KIT}/logic_built"]
 
 
-def make_ready(crates):
+def make_ready(crates: list[str]) -> None:
     """Has these libraries stand, proved first where they don't."""
     if not all(map(stands, crates)) and subprocess.call([f"{TOP}/build/build", *crates]):
         sys.exit(f"{os.path.basename(sys.argv[0])}: the libraries weren't proved (the reason stands above)")

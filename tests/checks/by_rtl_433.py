@@ -78,7 +78,8 @@ def program(path: str | None) -> str | None:
     found = shutil.which(path or "rtl_433")
     if not path and not found:
         sys.path.insert(0, f"{TOP}/service")
-        from checks import install
+        # (of service/, whose name a folder of tests/ has too)
+        from checks import install  # type: ignore[attr-defined]
         install([PACKAGE])
         found = shutil.which("rtl_433")
     lacking = None if found else f"{path or 'the package ' + PACKAGE} isn't there"

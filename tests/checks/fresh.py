@@ -10,7 +10,7 @@ TOP = programs.TOP
 
 
 @functools.cache
-def newer_programs():
+def newer_programs() -> list[tuple[str, str]]:
     """The programs that dist/ doesn't have for these sources, with the hash of these."""
     found = []
     for name in sorted(it.removesuffix(".built") for it in os.listdir(f"{TOP}/dist") if it.endswith(".built")):
@@ -20,7 +20,7 @@ def newer_programs():
     return found
 
 
-def copy_into(folder):
+def copy_into(folder: str) -> None:
     """Copies what a commit would have, with the programs for these sources: as they lie in dist/, or else as they are built here."""
     listed = subprocess.run(["git", "-C", TOP, "ls-files", "-z", "--cached", "--others", "--exclude-standard"], check=True,
                             stdout=subprocess.PIPE).stdout

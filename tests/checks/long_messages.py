@@ -8,15 +8,15 @@ FILLERS = b"\x2f" * len(RECORDS)
 ENCRYPTED, FRAGMENTS = 240, 8
 
 
-def address(meter):
+def address(meter: int) -> bytes:
     return bytes.fromhex("9315") + bytes.fromhex(f"{meter + 1:08d}")[::-1] + b"\x01\x07"
 
 
-def key(meter):
+def key(meter: int) -> bytes:
     return (meter + 1).to_bytes(4, "big") * 4
 
 
-def message(own_key, own_address, counter, payload):
+def message(own_key: bytes, own_address: bytes, counter: int, payload: bytes) -> tuple[bytes, bytes]:
     """A message of which fifteen blocks are encrypted, and the rest is plain; with its MAC."""
     hidden = messages.cbc(messages.derived(own_key, messages.METER_CIPHER, counter, own_address), payload[:ENCRYPTED])
     text = bytes([0x7A, counter % 256, 0, 0xF0, 7, 0x10]) + hidden + payload[ENCRYPTED:]
@@ -24,7 +24,7 @@ def message(own_key, own_address, counter, payload):
     return text, messages.cmac(messages.derived(own_key, messages.METER_MAC, counter, own_address), counted + text)[:8]
 
 
-def write_session(folder, meters, payload):
+def write_session(folder: str, meters: int, payload: bytes) -> None:
     """Writes the roster of so many meters, and what one receiver hears of them, as the files `roster` and `rx` of a folder."""
     with open(f"{folder}/roster", "w", encoding="ascii") as file:
         file.write("wmbus-roster 1\nown 9315010000000131\n")

@@ -1,13 +1,15 @@
 """What the other outputs of `wmbus collect` have to hold, by its report and its inputs alone: the readings, the next roster and the
 downlinks."""
 import json
+from typing import Any
 
 import replay
+from typing import Any
 from telegrams.frames import format_a
 from telegrams.messages import downlink
 
 
-def record_of(line):
+def record_of(line: str) -> dict[str, object]:
     fields = line.split(" ")
     if fields[0] == "maker":
         return {"maker": fields[1], "raw": fields[2].replace("-", "")}
@@ -17,7 +19,7 @@ def record_of(line):
             "modifiers": modifiers.replace("-", ""), "value": value, "raw": raw.replace("-", "")}
 
 
-def readings_of(report):
+def readings_of(report: str) -> str:
     """The JSON of a report's last readings."""
     meters = []
     for address, head, steps, behind in replay.parts(report)[1]:
@@ -30,15 +32,17 @@ def readings_of(report):
     return json.dumps({"meters": meters}, sort_keys=True, separators=(",", ":")) + "\n"
 
 
-def next_of(report, roster, heard):
+def next_of(report: str, roster: str, heard: list[list[bytes]]) -> tuple[str, list[bytes]]:
     """The next roster, and the downlinks of each receiver; `heard` are the lines of each receiver."""
     lines = roster.splitlines()
     own, made = bytes.fromhex(lines[1].split()[1]), lines[:2]
-    sent = {w: [] for w in range(1, len(heard) + 1)}
+    sent: dict[int, list[tuple[int, bytes]]] = {w: [] for w in range(1, len(heard) + 1)}
     for line, (address, head, steps, _) in zip(lines[2:], replay.parts(report)[1]):
-        _, _, mode, key, other, _, down, ids = line.split(" ")
-        said = head.split(" ")
-        payloads, queue, ids = {}, [], int(ids)
+        _, _, mode, key, other, _, down, last_id = line.split(" ")
+        of_head = head.split(" ")
+        payloads: dict[int, bytes] = {}
+        queue: list[int] = []
+        ids = int(last_id)
         for w, number, outcome in steps:
             fields, words = heard[w - 1][number - 1].split(b" "), outcome.split(" ")
             if words[0] == "queued":
@@ -51,17 +55,17 @@ def next_of(report, roster, heard):
             elif words[0] == "rekeyed":
                 other = fields[2].decode().lower()
             elif words[0] == "stored":
-                queue = [it for it in queue if "confirmed" not in words or it != int(words[words.index("confirmed") + 1])]
+                queue = [command for command in queue if "confirmed" not in words or command != int(words[words.index("confirmed") + 1])]
                 if "sent" in words:
                     count = int(words[-1])
-                    down = count
+                    down = str(count)
                     frame = format_a(downlink(own, bytes.fromhex(key), bytes.fromhex(address), count, payloads[queue[0]]))
                     sent[w].append((number, b"D " + frame.hex().encode() + b"\n"))
-        made.append(f"meter {address} {mode} {key} {other} {said[5]} {down} {ids}")
+        made.append(f"meter {address} {mode} {key} {other} {of_head[5]} {down} {ids}")
     return "".join(f"{line}\n" for line in made), [b"".join(line for _, line in sorted(sent[w])) for w in sent]
 
 
-def check_outputs(roster, heard, report, outputs):
+def check_outputs(roster: str, heard: list[list[bytes]], report: str, outputs: dict[str, Any]) -> None:
     """`outputs` are the next roster, the readings, and the downlinks of each receiver, as bytes."""
     wanted_next, wanted_sent = next_of(report, roster, heard)
     replay.equal("readings by the report", readings_of(report), outputs["readings"].decode())

@@ -6,24 +6,29 @@ A session is right where
 - the lines of each meter, put behind one another in the order that the report prints, are answered by one receiver as the report says,
   down to the records, the commands that wait, the ring, the next roster and the bytes of every downlink."""
 import os
+from typing import Any
 
 import running
+from typing import Any
 
 MOST_SECONDS = 600
+# of a report: its receivers, its meters (address, head, steps as receiver, line and outcome, the lines after them), strangers and ring
+Parts = tuple[list[str], list[tuple[str, str, list[tuple[int, int, str]], list[str]]], list[tuple[int, int]], list[str]]
 
 
 class Wrong(Exception):
     """What of a session isn't right."""
 
 
-def run(program, words, folder):
+def run(program: list[str], words: list[str], folder: str) -> tuple[int, str, str]:
     return running.run([*program, *words], seconds=MOST_SECONDS, cwd=folder).texts
 
 
-def parts(report):
+def parts(report: str) -> Parts:
     """A report's receivers, its meters (address, head, steps as (receiver, line, outcome), the lines behind them), its strangers and its
     ring."""
-    receivers, meters, strangers, ring = [], [], [], []
+    meters: list[tuple[str, str, list[tuple[int, int, str]], list[str]]] = []
+    receivers, strangers, ring = [], [], []
     for line in report.splitlines():
         word, _, rest = line.partition(" ")
         if word == "receiver":
@@ -43,17 +48,17 @@ def parts(report):
     return receivers, meters, strangers, ring
 
 
-def text_lines(path):
+def text_lines(path: str) -> list[bytes]:
     with open(path, "rb") as file:
         return file.read().split(b"\n")
 
 
-def equal(what, wanted, given):
+def equal(what: str, wanted: object, given: object) -> None:
     if wanted != given:
         raise Wrong(f"{what}: wanted {str(wanted)[:200]}, got {str(given)[:200]}")
 
 
-def check_lines(program, folder, roster, inputs, report):
+def check_lines(program: list[str], folder: str, roster: str, inputs: list[str], report: str) -> None:
     """Each receiver's lines stand in the report as they do where it is heard alone."""
     receivers, meters, strangers, _ = parts(report)
     for w, rx in enumerate(inputs, 1):
@@ -66,10 +71,10 @@ def check_lines(program, folder, roster, inputs, report):
         equal(f"strangers of receiver {w}", [line for _, line in of_strangers], [line for by, line in strangers if by == w])
     known = set(range(1, len(inputs) + 1))
     for address, _, steps, _ in meters:
-        equal(f"receivers of {address}", set(), {w for w, _, _ in steps} - known)
+        equal(f"receivers of {address}", set[int](), {w for w, _, _ in steps} - known)
 
 
-def check_replay(program, folder, roster, inputs, outputs, report):
+def check_replay(program: list[str], folder: str, roster: str, inputs: list[str], outputs: dict[str, Any], report: str) -> None:
     """One receiver that hears the printed order answers as printed; `outputs` are the paths of the downlinks and of the next roster."""
     _, meters, strangers, ring = parts(report)
     heard = [text_lines(os.path.join(folder, rx)) for rx in inputs]
@@ -88,12 +93,12 @@ def check_replay(program, folder, roster, inputs, outputs, report):
     sent = [(w, line) for _, _, steps, _ in meters for w, line, outcome in steps if " sent " in outcome and outcome.startswith("stored ")]
     lines = [line for line in text_lines(os.path.join(folder, "replay.tx")) if line]
     equal("downlinks of the replay", len(sent), len(lines))
-    by_receiver = {w: [] for w in range(1, len(inputs) + 1)}
+    by_receiver: dict[int, list[tuple[int, bytes]]] = {w: [] for w in range(1, len(inputs) + 1)}
     for (w, line), downlink in zip(sent, lines):
         by_receiver[w].append((line, downlink))
     for w, tx in enumerate(outputs["tx"], 1):
         wanted = [downlink for _, downlink in sorted(by_receiver[w])]
         equal(f"downlinks of receiver {w}", wanted, [line for line in text_lines(os.path.join(folder, tx)) if line])
     for name in ("next", "readings"):
-        with open(os.path.join(folder, outputs[name]), "rb") as given, open(os.path.join(folder, f"replay.{name}"), "rb") as wanted:
-            equal(name, wanted.read(), given.read())
+        with open(os.path.join(folder, outputs[name]), "rb") as given, open(os.path.join(folder, f"replay.{name}"), "rb") as replayed_file:
+            equal(name, replayed_file.read(), given.read())

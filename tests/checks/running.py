@@ -42,7 +42,7 @@ class Ran(NamedTuple):
 def run(words: Sequence[str | bytes], given: bytes = b"", seconds: float = SECONDS, **how: Any) -> Ran:
     """Runs a program to its end, which has to come in time. It is given these bytes on its standard input, and its outputs are read; `how`
     may name other streams, the folder and what else subprocess takes."""
-    streams = {"stdout": subprocess.PIPE, "stderr": subprocess.PIPE} | ({} if "stdin" in how else {"input": given})
+    streams: dict[str, Any] = {"stdout": subprocess.PIPE, "stderr": subprocess.PIPE} | ({} if "stdin" in how else {"input": given})
     done = subprocess.run(words, timeout=seconds, check=False, **streams | how)
     return Ran(done.returncode, done.stdout or b"", done.stderr or b"")
 

@@ -5,6 +5,8 @@ import copy
 import glob
 import os
 import re
+import random
+from collections.abc import Iterator
 
 import ways
 from telegrams.frames import format_a, format_b
@@ -17,15 +19,15 @@ OWN = "9315010000000131"
 STORED = re.compile(r"^step \S+ \S+ stored \S+ \S+ ([0-9a-f]+)", re.M)
 
 
-def content(pattern):
+def content(pattern: str) -> Iterator[bytes]:
     for path in sorted(glob.glob(os.path.join(EXAMPLES, pattern))):
         with open(path, "rb") as file:
             yield file.read()
 
 
-def examples():
+def examples() -> tuple[dict[str, tuple[int, bytes]], list[bytes], list[bytes]]:
     """The examples' meters by their addresses as (mode, key), their lines, and what their stored messages say."""
-    meters = {}
+    meters: dict[str, tuple[int, bytes]] = {}
     for roster in content("*.roster"):
         for fields in (line.split() for line in lines_of(roster)):
             if fields[:1] == [b"meter"]:
@@ -41,18 +43,18 @@ METERS, LINES, PAYLOADS = examples()
 class Meter:
     """A meter of the roster, with what it has sent so far."""
 
-    def __init__(self, draw, address, mode, key):
+    def __init__(self, draw: random.Random, address: str, mode: int, key: bytes) -> None:
         self.address, self.mode, self.key = bytes.fromhex(address), mode, key
         self.other = draw.randbytes(16) if mode == 7 and draw.random() < 0.5 else None
         self.counter = draw.choice([0, 0, 1, 250, 0xFFFFFFFF - 40]) if mode == 7 else draw.randrange(256)
         self.last = draw.choice(["-", "-", str(self.counter)])
         self.down, self.ids = (draw.choice([0, 0, 0, 7, 0xFFFFFFFE]) for _ in range(2))
 
-    def roster_line(self):
+    def roster_line(self) -> str:
         other = "-" if self.other is None else self.other.hex()
         return f"meter {self.address.hex()} {self.mode} {self.key.hex()} {other} {self.last} {self.down} {self.ids}\n"
 
-    def count(self, draw):
+    def count(self, draw: random.Random) -> int:
         """The counter or access number of the next message: mostly the next one, at times an old one, or one far ahead."""
         size = 32 if self.mode == 7 else 8
         chance = draw.random()
@@ -64,7 +66,7 @@ class Meter:
         return self.counter
 
 
-def bent(draw, content, changes=1):
+def bent(draw: random.Random, content: bytes, changes: int = 1) -> bytes:
     """Some bytes with one thing changed: a bit, a byte, a byte more or less, a cut, or a piece repeated."""
     made = bytearray(content)
     for _ in range(changes):
@@ -85,7 +87,7 @@ def bent(draw, content, changes=1):
     return bytes(made)
 
 
-def records(draw):
+def records(draw: random.Random) -> bytes:
     """What a message says: an example's payload, changed or not, several of them, records by chance, or bytes by chance."""
     chance = draw.random()
     known = draw.choice(PAYLOADS)
@@ -106,7 +108,7 @@ def records(draw):
 class Message:
     """A message and the layers around it, each of which can be changed before those above it are made."""
 
-    def __init__(self, draw, meter):
+    def __init__(self, draw: random.Random, meter: Meter) -> None:
         self.meter, self.number = meter, meter.count(draw)
         self.control = draw.choice(UPLINKS)
         self.extension = draw.choice([b"", b"", b"\x8c\x80", b"\x8c\x84", b"\x8c\x00"])
@@ -117,20 +119,22 @@ class Message:
         self.mode, self.key_id = meter.mode, draw.choice([0, 0, 0, 1, 2])
         self.config = draw.choice([0, 0, 0x80, 0xC0, 0x40])
         self.derivation = 1
-        said = records(draw)[:180]
+        payload = records(draw)[:180]
         # the rest isn't encrypted
-        cut = len(said) if draw.random() < 0.9 else draw.randrange(0, len(said) + 1) // 16 * 16
-        self.plain = said[:cut] + b"\x2f" * (-cut % 16)
-        self.rest = said[cut:]
+        cut = len(payload) if draw.random() < 0.9 else draw.randrange(0, len(payload) + 1) // 16 * 16
+        self.plain = payload[:cut] + b"\x2f" * (-cut % 16)
+        self.rest = payload[cut:]
         self.blocks = len(self.plain) // 16
         self.fields = MCL | MCR | MAC
-        self.mcl, self.said = 0x25, None
-        self.header = None
+        self.mcl = 0x25
+        # the length that the layer says, and the transport header, where they aren't the right ones
+        self.length: int | None = None
+        self.header: bytes | None = None
 
-    def key(self):
+    def key(self) -> bytes:
         return self.meter.other if self.key_id == 1 and self.meter.other else self.meter.key
 
-    def bend(self, draw):
+    def bend(self, draw: random.Random) -> None:
         """Changes one thing at one layer."""
         kind = draw.randrange(12)
         if kind == 0:
@@ -143,7 +147,7 @@ class Message:
         elif kind == 3:
             self.mcl = draw.choice([0x24, 0x20, 0x05, 0x65, 0xF5, draw.randrange(256)])
         elif kind == 4:
-            self.said = draw.choice([0, 2, 14, 16, 255, draw.randrange(256)])
+            self.length = draw.choice([0, 2, 14, 16, 255, draw.randrange(256)])
         elif kind == 5:
             self.mode = draw.choice([0, 5, 7, 8, 10, draw.randrange(32)])
         elif kind == 6:
@@ -160,8 +164,8 @@ class Message:
         else:
             self.rest += draw.randbytes(draw.randrange(1, 30))
 
-    def text(self):
-        """The transport header and what stands behind it, encrypted."""
+    def text(self) -> bytes:
+        """The transport header and what is after it, encrypted."""
         if self.header is not None:
             return self.header + self.rest
         config = self.blocks << 4 & 0xFF | (self.mode & 0x1F | self.config) << 8
@@ -176,18 +180,18 @@ class Message:
         return made + cbc(derived(self.key(), METER_CIPHER, self.number & 0xFFFFFFFF, self.meter.address),
                           self.plain[:encrypted]) + self.plain[encrypted:] + self.rest
 
-    def layer(self, text, number, more, fields):
+    def layer(self, text: bytes, number: int, more: bool, fields: int) -> bytes:
         """The authentication and fragmentation layer of a whole message (number 0) or of one of its fragments."""
         parts = {MCL: bytes([self.mcl]), KI: b"\0\0", MCR: self.number.to_bytes(4, "little"), ML: b"\0\0"}
         if fields & MAC:
             counted = parts[MCL] + parts[MCR] + (parts[ML] if self.fields & ML else b"")
             parts[MAC] = cmac(derived(self.key(), METER_MAC, self.number, self.meter.address), counted + text)[:8]
-        said = b"".join(parts[bit] for bit, _ in SIZES if fields & bit)
+        content = b"".join(parts[bit] for bit, _ in SIZES if fields & bit)
         control = fields | number | (MORE if more else 0)
-        size = len(said) + 2 if self.said is None else self.said
-        return bytes([0x90, size]) + control.to_bytes(2, "little") + said
+        size = len(content) + 2 if self.length is None else self.length
+        return bytes([0x90, size]) + control.to_bytes(2, "little") + content
 
-    def telegrams(self, draw):
+    def telegrams(self, draw: random.Random) -> list[bytes]:
         text = self.text()
         if self.meter.mode == 5:
             layer = draw.choice([b""] * 12 + [b"\x90\x02\x00\x00", b"\x90\x02\x01\x40", b"\x90\x02\x02\x00"])
@@ -196,7 +200,7 @@ class Message:
             return [telegram(self.control, self.meter.address, (self.extension + self.layer(text, 0, False, self.fields) + text)[:246])]
         return self.fragments(draw, text)
 
-    def fragments(self, draw, text):
+    def fragments(self, draw: random.Random, text: bytes) -> list[bytes]:
         """The message in fragments, at times with one missing, twice, changed, in another place, or under another number."""
         count = draw.choice([1, 2, 3, 4, 8, 16])
         size = -(-len(text) // count)
@@ -216,7 +220,7 @@ class Message:
         return made
 
 
-def framed(draw, moment, sent):
+def framed(draw: random.Random, moment: int, sent: bytes) -> bytes:
     """A line with a telegram, mostly of format A; its length and CRCs are right."""
     sent = bytes([len(sent) - 1]) + sent[1:]
     form, frame = "A", format_a(sent)
@@ -225,8 +229,8 @@ def framed(draw, moment, sent):
     return f"{form} {moment} {frame.hex()}".encode()
 
 
-def meter_lines(draw, meter, moment):
-    """The lines of one message of a meter, changed at a layer or not, and at times the telegram changed behind its MAC."""
+def meter_lines(draw: random.Random, meter: Meter, moment: int) -> list[bytes]:
+    """The lines of one message of a meter, changed at a layer or not, and at times the telegram changed after its MAC."""
     made = Message(draw, meter)
     while draw.random() < 0.3:
         made.bend(draw)
@@ -238,7 +242,7 @@ def meter_lines(draw, meter, moment):
     return [framed(draw, moment, it) for it in sent if len(it) > 10]
 
 
-def operator_line(draw, meters):
+def operator_line(draw: random.Random, meters: list[Meter]) -> bytes:
     name = draw.choice(meters).address.hex() if draw.random() < 0.95 else draw.randbytes(8).hex()
     kind = draw.randrange(9)
     if kind < 5:
@@ -247,17 +251,17 @@ def operator_line(draw, meters):
         return f"Q {name} {draw.randbytes(draw.choice([0, 1, 2, 14, 15, 94, 95])).hex()}".encode()
     if kind < 8:
         return f"X {name} {draw.choice([0, 1, 2, 3, 8, 9, 0xFFFFFFFF, 1 << 32])}".encode()
-    same = [it for it in meters if it.address.hex() == name and it.other]
-    return f"K {name} {(same[0].other if same else draw.randbytes(16)).hex()}".encode()
+    same = [meter.other for meter in meters if meter.address.hex() == name and meter.other]
+    return f"K {name} {(same[0] if same else draw.randbytes(16)).hex()}".encode()
 
 
-def stranger_line(draw, moment):
+def stranger_line(draw: random.Random, moment: int) -> bytes:
     name = bytes.fromhex("9315") + draw.getrandbits(9).to_bytes(4, "little") + b"\x01\x07"
     return framed(draw, moment, telegram(0x44, name, draw.choice([b"\x7a\x01\x00\x00\x00", b"\x78",
                                                                   draw.randbytes(draw.randrange(1, 40))])))
 
 
-def damaged(draw, line):
+def damaged(draw: random.Random, line: bytes) -> bytes:
     """A frame line whose frame is changed and not made right again."""
     fields = line.split(b" ")
     if len(fields) != 3 or fields[0] not in (b"A", b"B") or len(fields[2]) % 2:
@@ -271,7 +275,7 @@ def damaged(draw, line):
     return b" ".join([*fields[:2], bent(draw, frame).hex().encode()])
 
 
-def misspelt(draw, line):
+def misspelt(draw: random.Random, line: bytes) -> bytes:
     """A line of which the text is changed."""
     kind = draw.randrange(10)
     if kind == 0:
@@ -290,9 +294,9 @@ def misspelt(draw, line):
     return bent(draw, line, draw.randrange(1, 3))
 
 
-def hostile_lines(draw, meters, count):
+def hostile_lines(draw: random.Random, meters: list[Meter], count: int) -> list[bytes]:
     """So many lines at least, for these meters and others."""
-    made = []
+    made: list[bytes] = []
     while len(made) < count:
         chance = draw.random()
         old = draw.choice(made) if made else draw.choice(LINES)
@@ -316,13 +320,13 @@ def hostile_lines(draw, meters, count):
     return made
 
 
-def some_meters(draw):
+def some_meters(draw: random.Random) -> list[Meter]:
     """The examples' meters, or some of them, with keys and counters of their own."""
     names = draw.sample(sorted(METERS), draw.randrange(1, len(METERS) + 1))
     return [Meter(draw, name, *METERS[name]) for name in names]
 
 
-def recommissioned(draw, meters):
+def recommissioned(draw: random.Random, meters: list[Meter]) -> list[Meter]:
     """Some of these meters, some of them with other counters and second keys; what they sent stays."""
     made = []
     for meter in draw.sample(meters, draw.randrange(1, len(meters) + 1)):
@@ -334,11 +338,11 @@ def recommissioned(draw, meters):
     return made
 
 
-def roster_of(meters):
+def roster_of(meters: list[Meter]) -> str:
     return f"wmbus-roster 2\nown {OWN}\n" + "".join(meter.roster_line() for meter in meters)
 
 
-def file_of(draw, lines):
+def file_of(draw: random.Random, lines: list[bytes]) -> bytes:
     """A receiver's file: most lines end with a newline, some with a carriage return before it; the last may have neither."""
     ends = [b"\r\n" if draw.random() < 0.02 else b"\n" for _ in lines]
     if lines and draw.random() < 0.2:

@@ -2,6 +2,7 @@
 from __future__ import annotations
 
 import random
+from collections.abc import Callable
 
 import hostile
 import judging
@@ -219,7 +220,7 @@ def _parts(numbers: range) -> list[bytes]:
 
 ROSTER = [b"wmbus-roster 2", *(line for line in KNOWN if line.startswith((b"own ", b"meter ")))]
 # states and rosters at a limit and just past it: meters, fragments, a roster's bytes under both heads, a state's bytes
-LIMITS = [
+LIMITS: list[Callable[[], bytes]] = [
     lambda: _ended(meters(4096)),
     lambda: _ended(meters(4097)),
     lambda: _ended([*KNOWN[:5], *_parts(range(1, 17)), b"tick", *_parts(range(1, 4)), b"end"]),

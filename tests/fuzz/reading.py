@@ -11,14 +11,14 @@ MAC, ML, MCR, MCL, MORE, KI = 0x0400, 0x1000, 0x0800, 0x2000, 0x4000, 0x0200
 SIZES = ((MCL, 1), (KI, 2), (MCR, 4), (MAC, 8), (ML, 2))
 
 
-def lines_of(content):
+def lines_of(content: bytes) -> list[bytes]:
     """The lines of a file: each without its newline and the carriage return before it."""
     lines = content.split(b"\n")
     last = lines.pop()
     return [line[:-1] if line.endswith(b"\r") else line for line in lines] + ([last] if last else [])
 
 
-def telegram_of(form, frame):
+def telegram_of(form: bytes, frame: bytes) -> bytes | None | None:
     """The telegram of a frame, or none where the bytes are no frame of this format."""
     if not frame:
         return None
@@ -35,7 +35,7 @@ def telegram_of(form, frame):
     return telegram if format_b(telegram) == frame else None
 
 
-def target(telegram):
+def target(telegram: bytes) -> bytes:
     """The address that a telegram is for: that of a long transport header where all layers can be read, else the link address."""
     link, rest = telegram[2:10], telegram[10:]
     if rest[:1] in (b"\x8c", b"\x8e"):
@@ -57,7 +57,7 @@ def target(telegram):
     return rest[5:7] + rest[1:5] + rest[7:9]
 
 
-def address_of(line):
+def address_of(line: bytes) -> str:
     """The address that a line is for, as sixteen digits; or `bad`, or `unframed`."""
     fields = line.split(b" ")
     word = fields[0]
@@ -70,10 +70,11 @@ def address_of(line):
         return "unframed" if telegram is None else target(telegram).hex()
     if not ADDRESS.match(fields[1]):
         return "bad"
-    right = {
-        b"T": lambda: True,
-        b"Q": lambda: DIGITS.match(fields[2]) and 1 <= len(fields[2]) // 2 <= 94,
-        b"X": lambda: NUMBER.match(fields[2]) and not int(fields[2]) >> 32,
-        b"K": lambda: DIGITS.match(fields[2]) and len(fields[2]) == 32,
-    }
-    return fields[1].decode().lower() if right[word]() else "bad"
+    return fields[1].decode().lower() if word == b"T" or is_right(word, fields[2]) else "bad"
+
+
+def is_right(word: bytes, field: bytes) -> bool:
+    """Whether the last field of a command, a cancellation or a new key is one."""
+    if word == b"X":
+        return bool(NUMBER.match(field)) and not int(field) >> 32
+    return bool(DIGITS.match(field)) and (len(field) == 32 if word == b"K" else 1 <= len(field) // 2 <= 94)

@@ -205,7 +205,8 @@ def _year(year: int, hundreds: int = 0) -> str | None:
 
 
 def _joined(separator: str, *parts: str | None) -> str | None:
-    return None if None in parts else separator.join(parts)
+    known = [part for part in parts if part is not None]
+    return separator.join(known) if len(known) == len(parts) else None
 
 
 def _bits(word: int, first: int, count: int) -> int:
@@ -296,6 +297,7 @@ def _kind_of(record: Record) -> str:
     """How a number's data are coded: the data field, or the LVAR."""
     data_field = record.dif & 15
     if data_field == VARIABLE:
+        assert record.lvar is not None
         return ("text", "A", "-A", "B", "long")[max(0, (record.lvar >> 4) - 0xB)]
     return {0: "none", 5: "H"}.get(data_field, "B" if data_field < 8 else "sA")
 
@@ -308,6 +310,7 @@ def _counted(digits: int, text: str, unset: bool) -> str | None:
 def _number(record: Record, exponent: int, bits: bool, qualifiers: list[Qualifier]) -> tuple[str, str, bool, str | None]:
     """The value as text, the type, whether the number stands for none, and the number that it counts."""
     kind, raw = _kind_of(record), record.raw
+    digits: int | None
     if kind in ("none", "long"):
         return "raw" if raw else "-", "-", False, None
     if kind == "text":

@@ -50,7 +50,9 @@ def limited(kind: int, most: int) -> Callable[[], None]:
 def a_session(walk: Walk) -> None:
     """The state of docs/FORMATS.md, which has a line of each kind, and a session from it."""
     page = (TOP / "docs/FORMATS.md").read_text(encoding="utf-8")
-    state = re.search(r"^```\n(wmbus-state 1\n.*?^end\n)```$", page, re.M | re.S).group(1)
+    found = re.search(r"^```\n(wmbus-state 1\n.*?^end\n)```$", page, re.M | re.S)
+    assert found
+    state = found.group(1)
     kinds = {"wmbus-state", "own", "meter", "reading", "part", "tick", "waits", "command", "end"}
     equal("the kinds of lines in it", kinds, {line.split(" ")[0] for line in state.splitlines()})
     walk.write("state", state)
@@ -88,8 +90,8 @@ def files_that_are_none(walk: Walk) -> None:
                 for line in ran.told.splitlines():
                     told_by_a_row(line)
     for form in ("cul", "rtl_wmbus", "rtl_433", "hex"):
-        with open(walk.path("past"), "rb") as file:
-            ran = walk.run("line_feed", form, feed=file.read(1 << 20), status=1)
+        with open(walk.path("past"), "rb") as past:
+            ran = walk.run("line_feed", form, feed=past.read(1 << 20), status=1)
         true(f"line_feed {form} says {ran.told!r}", ran.told.startswith("line_feed: line 1: it has more than 4,096 bytes"))
     told = "wmbus: receiver 1 goes past the limit\n"
     true("too much of a receiver is cut", " cut\n" in walk.run("wmbus", "hear", "state", "past", status=8, told=told).text)
@@ -230,7 +232,7 @@ def heard_once(walk: Walk, place: str) -> None:
 def integrity(walk: Walk, name: str) -> str:
     """What SQLite says of a database."""
     with contextlib.closing(sqlite3.connect(walk.path(name))) as database:
-        return database.execute("PRAGMA integrity_check").fetchone()[0]
+        return str(database.execute("PRAGMA integrity_check").fetchone()[0])
 
 
 def outputs_that_take_nothing(walk: Walk) -> None:
@@ -260,7 +262,7 @@ def a_full_disk(walk: Walk) -> None:
     """No room for the database, the page and a round; once there is, all goes on."""
     disk = walk.path("disk")
     disk.mkdir()
-    mount = ["mount", "-t", "tmpfs", "-o", "size=256k", "walks", disk]
+    mount = ["mount", "-t", "tmpfs", "-o", "size=256k", "walks", str(disk)]
     if os.geteuid() or subprocess.run(mount, stderr=subprocess.DEVNULL, check=False).returncode:
         walk.say("a full disk, since nothing can be mounted here")
         return
@@ -321,7 +323,7 @@ def few_files(walk: Walk) -> None:
             what_to_do("Exit statuses", ran.told)
     equal("the statuses", {0, 11}, found)
     for most in (8, 16, 31):
-        ran = running.run([TOP / "bin" / "meter_name", METER], env=walk.environment() | {"PATH": "/usr/bin:/bin"},
+        ran = running.run([str(TOP / "bin" / "meter_name"), METER], env=walk.environment() | {"PATH": "/usr/bin:/bin"},
                           preexec_fn=limited(resource.RLIMIT_NOFILE, most))
         told = "bin/meter_name: fewer than 32 files may be open at once (ulimit -n)\n"
         equal(f"bin/meter_name with {most} files", (125, told), (ran.status, ran.told))

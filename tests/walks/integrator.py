@@ -44,13 +44,20 @@ def text_of(stream: list[str]) -> bytes:
     return "".join(stream).encode()
 
 
-def speak(walk: Walk, radio: subprocess.Popen, said: list[bytes]) -> None:
+def speak(walk: Walk, radio: subprocess.Popen[bytes], said: list[bytes]) -> None:
     """Feeds the roof's pipe: the valve's command, a message, and its response once the downlink has come out, then all other lines."""
-    before, behind = walk.read("roof.before"), walk.read("roof.behind")
+    before, after = walk.read("roof.before"), walk.read("roof.behind")
+    assert radio.stdout
     with open(walk.path("roof.pipe"), "wb", buffering=0) as pipe:
         pipe.write(before)
         said.append(radio.stdout.readline())
-        pipe.write(behind)
+        pipe.write(after)
+
+
+def end_all(processes: list[subprocess.Popen[bytes]]) -> None:
+    """Kills what runs for too long."""
+    for process in processes:
+        process.kill()
 
 
 def two_receivers_at_once(walk: Walk) -> None:
@@ -71,9 +78,9 @@ def two_receivers_at_once(walk: Walk) -> None:
     spoken: list[bytes] = []
     feeders = [threading.Thread(target=speak, args=(walk, radios[0], spoken), daemon=True),
                threading.Thread(target=lambda: walk.path("yard.pipe").write_bytes(walk.read("yard.rx")), daemon=True)]
-    late = threading.Timer(MOST_SECONDS, lambda: [it.kill() for it in (collector, *radios)])
-    for it in (*feeders, late):
-        it.start()
+    late = threading.Timer(MOST_SECONDS, end_all, args=([collector, *radios],))
+    for thread in (*feeders, late):
+        thread.start()
     report, told = collector.communicate()
     rest = [it.communicate()[0] for it in radios]
     late.cancel()
@@ -152,7 +159,9 @@ def each_session_is_audited(walk: Walk) -> None:
         report = walk.text(f"site/reports/{number:06}")
         ran = walk.run("audit_check", f"before{number}", f"site/reports/{number:06}", *files, told="")
         equal(f"the audit of round {number}", "yes\n", ran.text)
-        place = re.search(r"\nstep \d+ \d+ stored \d+ \d+ 2f2f0c13", report).end()
+        stored = re.search(r"\nstep \d+ \d+ stored \d+ \d+ 2f2f0c13", report)
+        assert stored
+        place = stored.end()
         changed = report[:place] + ("0" if report[place] != "0" else "1") + report[place + 1:]
         lines = report.splitlines(keepends=True)
         first = next(at for at in range(len(lines)) if all(it.startswith("step 1 ") for it in lines[at:at + 2]))
@@ -193,9 +202,9 @@ def lists_and_totals(walk: Walk) -> None:
     used = sum(told[-1][0] - told[0][0] for told in rows.values())
     powered = sum(any(POWER in payload for _, payload in told) for told in rows.values())
     first, last = (rows[VALVE.hex()][at][0] for at in (0, -1))
-    wanted = ["ok"] * len(edits) + [f"usage 0 0 0 volume m3 -3 {last - first}", "end"]
-    wanted += [f"total 0 0 0 power W 0 {powered} 0"] * (powered > 0) + [f"total 0 0 0 volume m3 -3 {len(rows)} {used}", "end"]
-    equal("the answers of usage_totals", wanted, answers)
+    answered = ["ok"] * len(edits) + [f"usage 0 0 0 volume m3 -3 {last - first}", "end"]
+    answered += [f"total 0 0 0 power W 0 {powered} 0"] * (powered > 0) + [f"total 0 0 0 volume m3 -3 {len(rows)} {used}", "end"]
+    equal("the answers of usage_totals", answered, answers)
 
 
 def statuses_are_handled(walk: Walk) -> None:

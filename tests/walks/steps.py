@@ -8,6 +8,7 @@ import subprocess
 import sys
 from collections.abc import Callable
 from pathlib import Path
+from typing import Any
 
 import running
 from formats_page import Row, explained_rows
@@ -148,7 +149,7 @@ class Walk:
             raise Wrong(f"{told}: a key is printed")
         return ran
 
-    def run(self, name: str, *words: str, status: int = 0, told: str | None = None, **how: object) -> running.Ran:
+    def run(self, name: str, *words: str, status: int = 0, told: str | None = None, **how: Any) -> running.Ran:
         """Runs a program that has to end with this status, and to say this on the standard error."""
         ran = self.tried(name, *words, **how)
         if ran.status != status:
@@ -159,7 +160,7 @@ class Walk:
 
     def stick(self, name: str, *words: str) -> bytes:
         """What the stand-in of a radio receiver prints."""
-        ran = running.run([TOP / "tests" / "stand_ins" / name, *words])
+        ran = running.run([str(TOP / "tests" / "stand_ins" / name), *words])
         equal(f"the status of the stand-in {name}", 0, ran.status)
         return ran.out
 
