@@ -1,0 +1,11 @@
+pub mod ItemsPut
+pub mod Members
+pub mod Numbers
+pub mod Plain
+pub mod PlainWords
+pub mod ReadPut
+pub mod RecordPut
+pub mod RecordsPut
+pub mod Shown
+pub mod Sizes
+pub mod Texts

@@ -1,0 +1,4 @@
+pub mod Trees
+pub mod Records
+pub mod ReadBack
+pub mod Words
